@@ -1,0 +1,5 @@
+pub mod Ways
+pub mod Sectors
+pub mod Fusing
+pub mod Steps
+pub mod Loops

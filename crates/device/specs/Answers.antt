@@ -1,0 +1,24 @@
+-- The code's answers by their numbers.
+use Prim.Native.Nat.{ℕ}
+use Rattle.std.specs.declared.result.Result.{Result}
+use Rattle.std.specs.declared.result.Result.the-variants.{Ok, Err}
+use Rattle.device.specs.declared.fault.DeviceFault.{DeviceFault}
+use Rattle.device.specs.declared.fault.DeviceFault.the-variants.{Length, Place, Gone}
+use Rattle.device.specs.Disk.{Told, good, refused, Refusal, refusal}
+
+-- each refusal's number
+abbrev pub number : DeviceFault → ℕ
+number Length = 1
+number (Place s) = 2
+number (Gone s) = 3
+
+-- the sector that a refusal names
+abbrev pub where-at : DeviceFault → ℕ
+where-at Length = 0
+where-at (Place s) = s
+where-at (Gone s) = s
+
+-- an answer, with what a good one gives
+abbrev pub told : {A B : Type 0} → Result A DeviceFault → B → Told Refusal B
+told (Ok _) b = good b
+told (Err e) b = refused (refusal (number e) (where-at e))
