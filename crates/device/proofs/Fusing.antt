@@ -8,8 +8,9 @@ use lib.Dec.{ltb, eqb}
 use lib.ListN.{length, getD}
 use Rattle.std.proofs.shelf.Tests.{eq-eqb, ne-eqb, cond-true, cond-false, cases-eq, both-ways, and-left, and-right, le-ltb, not-from-true}
 use Rattle.device.specs.Disk.{Bytes, Cell, Disk, Fate, at, thin, torn, Op, reads, writes, flushes, place, tests, at-sector, Way, leaves, refuses, stands, way, Told, Refusal, refusal, good, refused, told-by, after-by, Called, Whole, calm}
-use Rattle.device.specs.Fuse.{fused, passes-on, spent, blown-by, Burnt}
-use Rattle.device.proofs.Ways.{way-length, way-place, way-here, goes-by}
+use Rattle.device.specs.Answers.{sector-test}
+use Rattle.device.specs.Fuse.{fused, passes-on, blown-by, Burnt}
+use Rattle.device.proofs.Ways.{way-here, goes-by, stopped}
 
 pub fused-whole : (d : Disk) (b : Bool) → Whole d → Whole (fused d b)
 fused-whole d b w = record { some = w .some; few = w .few; long = w .long }
@@ -100,28 +101,15 @@ spent-up b left h = and-right (not b) (ltb 0 left) (le-ltb 0 left h)
 pub blown-up : (b : Bool) (left : ℕ) → b ≡ true → not b && ltb 0 left ≡ false
 blown-up b left h = and-left (not b) (ltb 0 left) (not-from-true b h)
 
--- the answer of the tests alone
-module _ (o : Op) (d : Disk) where
-  pub by-tests : {w : Way} → tests o d (refuses 3 (place o)) ≡ w → told-by w o d ≡ told-by (tests o d (refuses 3 (place o))) o d
-  by-tests is = ap (λ v. told-by v o d) (sym is)
+-- a call that the tests refuse, and one that they let through
+module _ {left : ℕ} {b : Bool} {d : Disk} where
+  pub held-stopped : (len s : ℕ) (o : Op) {t : Told Refusal Bytes} {r : Refusal} → passes-on o left b ≡ false → ((w : Way) → tests o d w ≡ at-sector len s d w) → t ≡ refused r → refused r ≡ sector-test len s (d .count) → Burnt o left b d t left b d
+  held-stopped len s o dead tested is h =
+      let x = stopped len s o d (refuses 3 (place o)) calm h in
+      held-back dead (is ∙ x .answer ∙ ap (λ v. told-by v o d) (sym (tested (refuses 3 (place o))))) (sym (ap (blown-by b) is ∙ cond-false _ _ _ (x .early)))
 
-module _ {left : ℕ} {b : Bool} {d : Disk} {s : ℕ} {bytes : Bytes} (dead : not b && ltb 0 left ≡ false) where
-  pub held-length : (length bytes ≡ 512 → ⊥) → Burnt (writes s bytes) left b d (refused (refusal 1 0)) left b d
-  held-length h = held-back dead (by-tests (writes s bytes) d (way-length (length bytes) s d _ h)) refl
+  pub write-held : {s : ℕ} {bytes : Bytes} → not b && ltb 0 left ≡ false → length bytes ≡ 512 → s < d .count → Burnt (writes s bytes) left b d (refused (refusal 3 s)) left true d
+  write-held {s} {bytes} dead e h = held-back dead (ap (λ v. told-by v (writes s bytes) d) (sym (way-here (length bytes) s d _ e h))) refl
 
-  pub held-place : length bytes ≡ 512 → d .count ≤ s → Burnt (writes s bytes) left b d (refused (refusal 2 s)) left b d
-  held-place e h = held-back dead (by-tests (writes s bytes) d (way-place (length bytes) s d _ e h)) refl
-
-  pub held-here : length bytes ≡ 512 → s < d .count → Burnt (writes s bytes) left b d (refused (refusal 3 s)) left true d
-  held-here e h = held-back dead (by-tests (writes s bytes) d (way-here (length bytes) s d _ e h)) refl
-
--- a read at a fuse that has blown
-module _ {left : ℕ} {b : Bool} {d : Disk} {s len : ℕ} (blown : b ≡ true) where
-  pub read-held-length : (len ≡ 512 → ⊥) → Burnt (reads len s) left b d (refused (refusal 1 0)) left b d
-  read-held-length h = held-back (not-from-true b blown) (by-tests (reads len s) d (way-length len s d _ h)) refl
-
-  pub read-held-place : len ≡ 512 → d .count ≤ s → Burnt (reads len s) left b d (refused (refusal 2 s)) left b d
-  read-held-place e h = held-back (not-from-true b blown) (by-tests (reads len s) d (way-place len s d _ e h)) refl
-
-  pub read-held-here : len ≡ 512 → s < d .count → Burnt (reads len s) left b d (refused (refusal 3 s)) left b d
-  read-held-here e h = held-back (not-from-true b blown) (by-tests (reads len s) d (way-here len s d _ e h)) blown
+  pub read-held : {s len : ℕ} → b ≡ true → len ≡ 512 → s < d .count → Burnt (reads len s) left b d (refused (refusal 3 s)) left b d
+  read-held {s} {len} blown e h = held-back (not-from-true b blown) (ap (λ v. told-by v (reads len s) d) (sym (way-here len s d _ e h))) blown

@@ -3,9 +3,11 @@ use mathlib.Core.Path.{_≡_, refl, sym, ap, ap₂, subst, _∙_}
 use mathlib.Core.List.{List, [], _∷_, _++_, append-nil, append-assoc}
 use Prim.Native.Nat.{ℕ}
 use native.Mathlib.Omega.{arith}
+use mathlib.Core.Bool.{true, false}
+use borrow.Author.Tests.{clash}
 use Rattle.std.specs.declared.result.Result.{Result}
 use Rattle.std.specs.declared.result.Result.the-variants.{Ok, Err}
-use Rattle.std.specs.Results.{ErrBy}
+use Rattle.std.specs.Results.{Cases, ErrBy, isOk, isErr}
 use Rattle.device.specs.declared.fault.DeviceFault.{DeviceFault}
 use Rattle.device.specs.Disk.{Bytes, Disk, Fate, Op, way, Told, Refusal, refusal, refused, told-by, after-by, Called}
 use Rattle.device.specs.Answers.{told, number, where-at}
@@ -77,6 +79,15 @@ ran-on {W} {S} {A} {w} x {p} {s} {e} {a} r = record { fates = r .fates; comes = 
 pub passed-on : {A B : Type 0} (r : Result A DeviceFault) (b : B) (y : DeviceFault) → ErrBy r (λ x. x ≡ y) → told r b ≡ refused (refusal (number y) (where-at y))
 passed-on (Ok a) b y h = absurd h
 passed-on (Err x) b y h = ap (λ z. refused (refusal (number z) (where-at z))) h
+
+-- what `?` leaves untouched where a call refused
+pub untouched-on : {A E X : Type 0} (r : Result A E) → X → Cases r (λ _. Unit {0}) (λ _. X)
+untouched-on (Ok a) x = tt
+untouched-on (Err e) x = x
+
+pub not-ok : {A E : Type 0} (r : Result A E) → isErr r ≡ true → isOk r ≡ false
+not-ok (Ok a) h = absurd (clash h)
+not-ok (Err e) h = refl
 
 -- a call of a function with a plan, as the last step
 pub led : {W S A : Type 0} {w : World W S} {p : Plan W A} {s e : S} {a : A} → Runs w p s a e → Comes w p s (done a) e

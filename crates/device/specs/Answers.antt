@@ -1,5 +1,7 @@
 -- The code's answers by their numbers.
+use mathlib.Core.Bool.{cond}
 use Prim.Native.Nat.{ℕ}
+use lib.Dec.{eqb, ltb}
 use Rattle.std.specs.declared.result.Result.{Result}
 use Rattle.std.specs.declared.result.Result.the-variants.{Ok, Err}
 use Rattle.device.specs.declared.fault.DeviceFault.{DeviceFault}
@@ -22,3 +24,7 @@ where-at (Gone s) = s
 abbrev pub told : {A B : Type 0} → Result A DeviceFault → B → Told Refusal B
 told (Ok _) b = good b
 told (Err e) b = refused (refusal (number e) (where-at e))
+
+-- the tests of a read or a write alone: so many bytes, at sector s of n
+abbrev pub sector-test : ℕ → ℕ → ℕ → Told Refusal (Unit {0})
+sector-test len s n = cond (eqb len 512) (cond (ltb s n) (good tt) (refused (refusal 2 s))) (refused (refusal 1 0))

@@ -7,6 +7,7 @@ ghost use Rattle.std.specs.Results.{Cases};
 ghost use Rattle.device.specs.Disk.{Called, reads, writes, flushes};
 ghost use Rattle.device.specs.Answers.{told};
 ghost use Rattle.device.specs.Fuse.{fused, Burnt};
+use crate::checks::check_sector;
 use crate::device::Device;
 use crate::fault::DeviceFault;
 use crate::power::PowerCut;
@@ -36,7 +37,12 @@ impl<D> FuseDevice<D> {
     pub fn into_inner(self) -> D
         ensures { λ r. ⌜ r ≡ self .inner ⌝ }
     {
-        self.inner
+        let FuseDevice {
+            inner,
+            left: _,
+            blown: _,
+        } = self;
+        inner
     }
 }
 
@@ -59,12 +65,7 @@ pub impl<D: Device> Device for FuseDevice<D> as FuseIsDevice {
         if !self.blown {
             return self.inner.read(sector, buffer);
         }
-        if buffer.len() != 512 {
-            return Err(DeviceFault::Length);
-        }
-        if sector >= self.inner.sectors() {
-            return Err(DeviceFault::Place(sector));
-        }
+        check_sector(buffer.len(), sector, self.inner.sectors())?;
         Err(DeviceFault::Gone(sector))
     }
 
@@ -77,12 +78,7 @@ pub impl<D: Device> Device for FuseDevice<D> as FuseIsDevice {
             self.left -= 1;
             return Ok(());
         }
-        if bytes.len() != 512 {
-            return Err(DeviceFault::Length);
-        }
-        if sector >= self.inner.sectors() {
-            return Err(DeviceFault::Place(sector));
-        }
+        check_sector(bytes.len(), sector, self.inner.sectors())?;
         self.blown = true;
         Err(DeviceFault::Gone(sector))
     }

@@ -1,4 +1,5 @@
 // Devices of 512-byte sectors: what each means, and two of them.
+mod checks;
 mod device;
 mod fault;
 mod fuse;

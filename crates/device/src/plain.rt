@@ -11,11 +11,11 @@ ghost use Rattle.std.specs.declared.option.Option.the-variants.{Some, None};
 ghost use Rattle.device.specs.Disk.{Called, Calmly, Cut, reads, writes, flushes};
 ghost use Rattle.device.specs.Answers.{told};
 ghost use Rattle.device.specs.Plain.{contents, plain, fit, fitness, sectors-of, nth-sector, with-sector};
+use crate::checks::SECTOR;
+use crate::checks::check_sector;
 use crate::device::Device;
 use crate::fault::DeviceFault;
 use crate::power::PowerCut;
-
-const SECTOR: usize = 512;
 
 // The caller's bytes in whole sectors, one possibility each; it never goes. Bytes with no sector, part of one or too many are kept,
 // but the device is then one sector of zeros, gone from the start.
@@ -91,7 +91,8 @@ impl PlainDevice {
     pub fn into_bytes(self) -> Vec<u8>
         ensures { λ r. ⌜ vec-items r ≡ contents self ⌝ }
     {
-        self.bytes
+        let PlainDevice { bytes } = self;
+        bytes
     }
 }
 
@@ -112,12 +113,7 @@ pub impl Device for PlainDevice as PlainIsDevice {
         ensures calmly { λ r. ⌜ Calmly (reads (length (now (buffer .entry))) sector) (plain (contents (now (self .entry)))) (told r (now (buffer .exit))) (plain (contents (now (self .exit)))) ⌝ }
         ensures same { λ r. ⌜ contents (now (self .exit)) ≡ contents (now (self .entry)) ⌝ }
     {
-        if buffer.len() != SECTOR {
-            return Err(DeviceFault::Length);
-        }
-        if sector >= self.count() {
-            return Err(DeviceFault::Place(sector));
-        }
+        check_sector(buffer.len(), sector, self.count())?;
         if !self.usable() {
             return Err(DeviceFault::Gone(sector));
         }
@@ -130,12 +126,7 @@ pub impl Device for PlainDevice as PlainIsDevice {
         ensures calmly { λ r. ⌜ Calmly (writes sector (now (bytes .entry))) (plain (contents (now (self .entry)))) (told r []) (plain (contents (now (self .exit)))) ⌝ }
         ensures bytes { λ r. ⌜ contents (now (self .exit)) ≡ cond (isOk r) (with-sector (contents (now (self .entry))) sector (now (bytes .entry))) (contents (now (self .entry))) ⌝ }
     {
-        if bytes.len() != SECTOR {
-            return Err(DeviceFault::Length);
-        }
-        if sector >= self.count() {
-            return Err(DeviceFault::Place(sector));
-        }
+        check_sector(bytes.len(), sector, self.count())?;
         if !self.usable() {
             return Err(DeviceFault::Gone(sector));
         }

@@ -1,10 +1,9 @@
 // Ranges of sectors of any device, the lowest first.
 ghost use Rattle.device.specs.Answers.{told};
 ghost use Rattle.device.specs.Plans.{Runs, one, zeroing, reading-into, writing-from};
+use crate::checks::SECTOR;
 use crate::device::Device;
 use crate::fault::DeviceFault;
-
-const SECTOR: usize = 512;
 
 // Writes zeros over `n` sectors from `first` on.
 pub fn write_zeros<D: Device>(device: &mut D, first: u32, n: u32) -> Result<(), DeviceFault>
