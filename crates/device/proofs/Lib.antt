@@ -3,3 +3,5 @@ pub mod Sectors
 pub mod Fusing
 pub mod Steps
 pub mod Loops
+pub mod Possible
+pub mod Ruled

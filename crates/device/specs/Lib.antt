@@ -3,3 +3,5 @@ pub mod Answers
 pub mod Plain
 pub mod Fuse
 pub mod Plans
+pub mod Rules
+pub mod Examples

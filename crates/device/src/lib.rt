@@ -6,6 +6,9 @@ mod fuse;
 mod plain;
 mod power;
 mod range;
+mod rules;
+#[cfg(test)]
+mod tests;
 
 pub use device::Device;
 pub use fault::DeviceFault;
@@ -20,3 +23,4 @@ pub use power::PowerCut;
 pub use range::read_sectors;
 pub use range::write_sectors;
 pub use range::write_zeros;
+pub use rules::fates_are_rules;

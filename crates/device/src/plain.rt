@@ -72,7 +72,7 @@ impl PlainDevice {
     pub fn new(bytes: Vec<u8>) -> PlainDevice
         ensures { λ r. ⌜ contents r ≡ vec-items bytes ⌝ }
     {
-        PlainDevice { bytes }
+        Self { bytes }
     }
 
     fn usable(&self) -> bool
