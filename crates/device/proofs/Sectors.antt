@@ -14,9 +14,13 @@ use Rattle.std.specs.shelf.Lists.{Has}
 use Rattle.std.proofs.shelf.Lists.{take-at, drop-at}
 use Rattle.std.proofs.shelf.Elements.{has-push-cases}
 use Rattle.std.proofs.shelf.Tests.{eq-eqb, ne-eqb, cond-true, cond-false, cases-eq, cases-lt, and-parts}
-use Rattle.device.specs.Disk.{Bytes, Disk, Whole, Fate, Op, reads, writes, flushes, passes, put, Told, Refusal, refusal, good, Calmly, calm, possibilities}
+use Rattle.device.specs.Disk.{Bytes, Disk, Whole, Fate, Op, reads, writes, flushes, passes, put, Told, Refusal, refusal, good, refused, Calmly, calm, possibilities}
 use Rattle.device.specs.Plain.{nth-sector, with-sector, fit, sectors-of, sector-of, plain}
-use Rattle.device.proofs.Ways.{way-here, calm-by}
+use Rattle.std.specs.declared.result.Result.{Result}
+use Rattle.std.specs.declared.result.Result.the-variants.{Ok, Err}
+use Rattle.device.specs.declared.fault.DeviceFault.{DeviceFault}
+use Rattle.device.specs.Answers.{told, power-test}
+use Rattle.device.proofs.Ways.{way-here, calm-by, on-by, off-by, flush-gone}
 
 -- what `copy_from_slice` leaves
 pub putMid-sector : (all : Bytes) (s : ℕ) (bytes : Bytes) → putMid (512 * s) (512 * s + 512 - 512 * s) all bytes ≡ with-sector all s bytes
@@ -94,6 +98,13 @@ module _ (all : Bytes) (is : fit (length all) ≡ true) where
 
   pub plain-flushes : Calmly flushes (plain all) (good []) (plain all)
   plain-flushes = calm-by passes (cond-true (fit (length all)) _ _ is) refl refl
+
+-- a flush answers as the test does whether the device is on
+pub plain-flushed : (all : Bytes) (r : Result (Unit {0}) DeviceFault) → told r tt ≡ power-test (fit (length all)) 0 → Calmly flushes (plain all) (told r []) (plain all)
+plain-flushed all (Ok u) h = plain-flushes all (on-by (fit (length all)) 0 h)
+plain-flushed all (Err e) h =
+    let off = off-by (fit (length all)) 0 h in
+    subst (λ x. Calmly flushes (plain all) (refused x) (plain all)) (sym (off .1)) (flush-gone (off .0))
 
 -- the only possibility
 pub only : {x b : Bytes} → Has (x ∷ []) b → x ≡ b

@@ -1,5 +1,5 @@
 -- The ways of a call by its tests.
-use mathlib.Core.Path.{_≡_, refl, sym, ap, _∙_}
+use mathlib.Core.Path.{_≡_, refl, sym, ap, subst, _∙_}
 use mathlib.Core.Bool.{Bool, true, false, cond}
 use mathlib.Core.List.{List, [], _∷_}
 use Prim.Native.Nat.{ℕ, _<_, _≤_}
@@ -9,7 +9,7 @@ use lib.ListN.{length}
 use borrow.Author.Tests.{eqb-true, ltb-true}
 use Rattle.std.proofs.shelf.Tests.{eq-eqb, lt-ltb, cond-true, cond-false}
 use Rattle.device.specs.Disk.{Bytes, Disk, Fate, Op, reads, writes, flushes, place, at-sector, Way, passes, leaves, refuses, stands, way, Told, Refusal, refusal, good, refused, told-by, after-by, Called, Calmly, calm}
-use Rattle.device.specs.Answers.{sector-test}
+use Rattle.device.specs.Answers.{sector-test, power-test}
 
 pub way-here : (len s : ℕ) (d : Disk) (w : Way) → len ≡ 512 → s < d .count → at-sector len s d w ≡ w
 way-here len s d w e h = cond-true (eqb len 512) _ _ (eq-eqb len 512 e) ∙ cond-true (ltb s (d .count)) _ _ (lt-ltb s (d .count) h)
@@ -72,6 +72,22 @@ module _ {d : Disk} {s : ℕ} where
 
   pub read-gone : {len : ℕ} → len ≡ 512 → s < d .count → d .on ≡ false → Calmly (reads len s) d (refused (refusal 3 s)) d
   read-gone {len} e h g = calm-by (refuses 3 s) (way-here len s d _ e h ∙ stands-gone (reads len s) d g) refl refl
+
+-- the test whether it is on
+pub on-by : (on : Bool) (s : ℕ) → good (tt {0}) ≡ power-test on s → on ≡ true
+on-by true s h = refl
+on-by false s h = other-answers (sym h)
+
+pub off-by : (on : Bool) (s : ℕ) {r : Refusal} → refused r ≡ power-test on s → (on ≡ false) × (r ≡ refusal 3 s)
+off-by true s h = other-answers h
+off-by false s h = (refl, cc)
+
+module _ {s : ℕ} {d : Disk} {t : Told Refusal Bytes} {r : Refusal} (is : t ≡ refused r) (off : refused r ≡ power-test (d .on) s) where
+  pub write-unpowered : {b : Bytes} → length b ≡ 512 → s < d .count → Calmly (writes s b) d t d
+  write-unpowered {b} e h = let x = off-by (d .on) s off in subst (λ y. Calmly (writes s b) d y d) (sym (is ∙ ap refused (x .1))) (write-gone e h (x .0))
+
+  pub read-unpowered : {len : ℕ} → len ≡ 512 → s < d .count → Calmly (reads len s) d t d
+  read-unpowered {len} e h = let x = off-by (d .on) s off in subst (λ y. Calmly (reads len s) d y d) (sym (is ∙ ap refused (x .1))) (read-gone e h (x .0))
 
 pub flush-gone : {d : Disk} → d .on ≡ false → Calmly flushes d (refused (refusal 3 0)) d
 flush-gone {d} g = calm-by (refuses 3 0) (stands-gone flushes d g) refl refl

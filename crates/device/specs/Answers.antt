@@ -1,5 +1,5 @@
 -- The code's answers by their numbers.
-use mathlib.Core.Bool.{cond}
+use mathlib.Core.Bool.{Bool, cond}
 use Prim.Native.Nat.{ℕ}
 use lib.Dec.{eqb, ltb}
 use Rattle.std.specs.declared.result.Result.{Result}
@@ -28,3 +28,7 @@ told (Err e) b = refused (refusal (number e) (where-at e))
 -- the tests of a read or a write alone: so many bytes, at sector s of n
 abbrev pub sector-test : ℕ → ℕ → ℕ → Told Refusal (Unit {0})
 sector-test len s n = cond (eqb len 512) (cond (ltb s n) (good tt) (refused (refusal 2 s))) (refused (refusal 1 0))
+
+-- the test of a device that never goes: it is on, or refuses at sector s
+abbrev pub power-test : Bool → ℕ → Told Refusal (Unit {0})
+power-test on s = cond on (good tt) (refused (refusal 3 s))

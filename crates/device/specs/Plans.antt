@@ -2,9 +2,10 @@
 use mathlib.Core.Path.{_≡_, refl}
 use mathlib.Core.Bool.{Bool, true, false, cond}
 use mathlib.Core.List.{List, [], _∷_, _++_}
-use Prim.Native.Nat.{ℕ, zero, suc, _+_, _/_, _%_}
+use Prim.Native.Nat.{ℕ, zero, suc, _+_, _*_, _/_, _%_}
 use lib.Dec.{eqb}
 use lib.ListN.{length, replicate, take, drop}
+use Rattle.std.specs.shelf.Lists.{between}
 use Rattle.device.specs.Disk.{Bytes, Disk, Fate, Op, reads, writes, flushes, way, Told, good, refused, Refusal, refusal, told-by, after-by}
 
 -- a plan ends with an answer, or calls a device and goes on by what it is told; W names the devices
@@ -139,6 +140,10 @@ gathering s zero sofar = done (good sofar)
 gathering s (suc n) sofar = call tt (reads 512 s) (λ t. onward t (λ b. gathering (s + 1) n (sofar ++ b)))
 
 -- BUFFERS
+
+-- part i of some bytes, one sector long
+abbrev pub nth-part : Bytes → ℕ → Bytes
+nth-part b i = between (512 * i) (512 * i + 512) b
 
 -- an answer, and the buffer that was read into
 pub record Filled : Type 0 where

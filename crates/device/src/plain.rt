@@ -9,7 +9,7 @@ ghost use Rattle.std.specs.Options.{Cases as BySome};
 ghost use Rattle.std.specs.Results.{Cases, isOk};
 ghost use Rattle.std.specs.declared.option.Option.the-variants.{Some, None};
 ghost use Rattle.device.specs.Disk.{Called, Calmly, Cut, reads, writes, flushes};
-ghost use Rattle.device.specs.Answers.{told};
+ghost use Rattle.device.specs.Answers.{told, power-test};
 ghost use Rattle.device.specs.Plain.{contents, plain, fit, fitness, sectors-of, nth-sector, with-sector};
 use crate::checks::SECTOR;
 use crate::checks::check_sector;
@@ -81,6 +81,16 @@ impl PlainDevice {
         is_fit(self.bytes.len())
     }
 
+    // Refuses, at a sector, where the device is gone.
+    fn powered(&self, sector: u32) -> Result<(), DeviceFault>
+        ensures { λ r. ⌜ told r tt ≡ power-test (fit (length (contents (now (self .entry))))) sector ⌝ }
+    {
+        if !self.usable() {
+            return Err(DeviceFault::Gone(sector));
+        }
+        Ok(())
+    }
+
     fn count(&self) -> u32
         ensures { λ r. ⌜ r ≡ sectors-of (length (contents (now (self .entry)))) ⌝ }
     {
@@ -114,9 +124,7 @@ pub impl Device for PlainDevice as PlainIsDevice {
         ensures same { λ r. ⌜ contents (now (self .exit)) ≡ contents (now (self .entry)) ⌝ }
     {
         check_sector(buffer.len(), sector, self.count())?;
-        if !self.usable() {
-            return Err(DeviceFault::Gone(sector));
-        }
+        self.powered(sector)?;
         get_sector(&self.bytes, sector, buffer);
         Ok(())
     }
@@ -127,9 +135,7 @@ pub impl Device for PlainDevice as PlainIsDevice {
         ensures bytes { λ r. ⌜ contents (now (self .exit)) ≡ cond (isOk r) (with-sector (contents (now (self .entry))) sector (now (bytes .entry))) (contents (now (self .entry))) ⌝ }
     {
         check_sector(bytes.len(), sector, self.count())?;
-        if !self.usable() {
-            return Err(DeviceFault::Gone(sector));
-        }
+        self.powered(sector)?;
         set_sector(self.bytes.as_mut_slice(), sector, bytes);
         Ok(())
     }
@@ -139,11 +145,7 @@ pub impl Device for PlainDevice as PlainIsDevice {
         ensures calmly { λ r. ⌜ Calmly flushes (plain (contents (now (self .entry)))) (told r []) (plain (contents (now (self .exit)))) ⌝ }
         ensures same { λ r. ⌜ contents (now (self .exit)) ≡ contents (now (self .entry)) ⌝ }
     {
-        if self.usable() {
-            Ok(())
-        } else {
-            Err(DeviceFault::Gone(0))
-        }
+        self.powered(0)
     }
 }
 

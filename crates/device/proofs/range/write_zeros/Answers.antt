@@ -8,16 +8,16 @@ use Rattle.device.proofs.range.write_zeros.Needs as need
 pub loop-holds : need.loop-holds
 loop-holds g c = same (ap (zeroing _) (none-yet _))
 
-pub returns-in-Break-write : need.returns-in-Break-write
-returns-in-Break-write g c =
+pub returns-in-Break-write-blank : need.returns-in-Break-write-blank
+returns-in-Break-write-blank g c =
     ends-as (passed-on (c .from-residual .result) tt _ (c .from-residual .ensures .1))
-    (c .loop .inv ⨾ same (zeroing-more _ _ _ (c .loop-test .taken)) ⨾ called (c .in-Break-write .ensures tt))
+    (c .loop .inv ⨾ same (zeroing-more _ _ _ (c .loop-test .taken)) ⨾ called (c .in-Break-write-blank .ensures tt))
 
 pub add-sector : need.add-sector
-add-sector g c = omega (arith, write-here (c .in-Continue-write .ensures tt), g .D·Device·met .whole (c .loop .device))
+add-sector g c = omega (arith, write-here (c .in-Continue-write-blank .ensures tt), g .D·Device·met .whole (c .loop .device))
 
 pub loop-again : need.loop-again
-loop-again g c = c .loop .inv ⨾ same (zeroing-more _ _ _ (c .loop-test .taken)) ⨾ called (c .in-Continue-write .ensures tt)
+loop-again g c = c .loop .inv ⨾ same (zeroing-more _ _ _ (c .loop-test .taken)) ⨾ called (c .in-Continue-write-blank .ensures tt)
 
 pub returns : need.returns
 returns g c = ends (c .loop .inv ⨾ same (zeroing-none _ _ _ (c .loop-test .left)))

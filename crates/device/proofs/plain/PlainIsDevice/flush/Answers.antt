@@ -1,15 +1,10 @@
-use mathlib.Core.Path.{refl, sym, _∙_}
+use mathlib.Core.Path.{refl}
 use Rattle.device.specs.Plain.{contents}
-use Rattle.device.proofs.Ways.{as-called, flush-gone}
-use Rattle.device.proofs.Sectors.{plain-flushes}
+use Rattle.device.proofs.Ways.{as-called}
+use Rattle.device.proofs.Sectors.{plain-flushed}
 use Rattle.device.proofs.plain.PlainIsDevice.flush.Needs as need
 
-pub returns-then-usable : need.returns-then-usable
-returns-then-usable c =
-    let calmly = plain-flushes (contents (c .args .self .now)) (sym (c .usable .ensures) ∙ c .if-usable .taken) in
-    record { call = as-called calmly; calmly = calmly; same = refl }
-
-pub returns-else-usable : need.returns-else-usable
-returns-else-usable c =
-    let calmly = flush-gone (sym (c .usable .ensures) ∙ c .if-usable .left) in
+pub returns : need.returns
+returns c =
+    let calmly = plain-flushed (contents (c .args .self .now)) (c .powered .result) (c .powered .ensures) in
     record { call = as-called calmly; calmly = calmly; same = refl }
