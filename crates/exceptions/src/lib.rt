@@ -1,0 +1,12 @@
+// The exceptions of a store in memory, and the search by key that finds one.
+mod figures;
+mod search;
+mod table;
+
+pub use search::Keyed;
+pub use search::find;
+pub use table::ByNew;
+pub use table::ByOld;
+pub use table::ExceptionTable;
+pub use table::New;
+pub use table::Old;

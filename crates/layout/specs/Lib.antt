@@ -1,0 +1,4 @@
+pub mod Chunks
+pub mod Numbers
+pub mod Entries
+pub mod Headers
