@@ -5,3 +5,4 @@ pub mod Steps
 pub mod Loops
 pub mod Possible
 pub mod Ruled
+pub mod Gathers

@@ -46,7 +46,7 @@ module _ {W S A : Type 0} {w : World W S} where
   pub called : {x : W} {o : Op} {k : Told Refusal (Bytes) → Plan W A} {s : S} {t : Told Refusal (Bytes)} {d : Disk} → Called o (w .get x s) t d → Comes w (call x o k) s (k t) (w .set x s d)
   called {x} {o} {k} {s} c = record { fates = c .fate ∷ []; leads = λ gs. ap₂ (λ t h. run w (k t) gs (w .set x s h)) (sym (c .answer)) (sym (c .after)) }
 
-never : {S A X : Type 0} {a : A} {s : S} → astray ≡ ended a s → X
+pub never : {S A X : Type 0} {a : A} {s : S} → astray ≡ ended a s → X
 never e = absurd (let z : _≡_ {A = ℕ} 0 1 = cc in omega arith)
 
 -- a call of a function with a plan, and then what the plan goes on with

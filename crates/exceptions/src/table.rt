@@ -3,7 +3,7 @@ ghost use mathlib.Core.Path.{_≡_};
 ghost use mathlib.Core.Bool.{cond, _&&_};
 ghost use mathlib.Core.List.{[], _∷_, _++_};
 ghost use Prim.Native.Nat.{_≤_, _^_};
-ghost use lib.Dec.{ltb};
+ghost use lib.Dec.{leb, ltb};
 ghost use lib.ListN.{length, take};
 ghost use Rattle.std.specs.Of.Vec.{vec-len, vec-cap, vec-items};
 ghost use Rattle.std.specs.Vec.{made};
@@ -67,6 +67,13 @@ impl ExceptionTable {
         ensures { λ r. ⌜ r ≡ length (vec-items (now (self .entry) .items)) ⌝ }
     {
         self.items.len()
+    }
+
+    // Whether the table holds as many as it can.
+    pub fn is_full(&self) -> bool
+        ensures { λ r. ⌜ r ≡ leb entries-at-most (length (vec-items (now (self .entry) .items))) ⌝ }
+    {
+        self.items.len() >= LIMIT
     }
 
     pub fn as_slice(&self) -> &[Exception]

@@ -1,0 +1,25 @@
+-- What `?` returns.
+use mathlib.Core.Path.{_≡_, ap}
+use mathlib.Core.List.{List}
+use Rattle.std.specs.declared.result.Result.{Result}
+use Rattle.std.specs.declared.result.Result.the-variants.{Ok, Err}
+use Rattle.std.specs.Results.{ErrBy}
+use Rattle.device.specs.declared.fault.DeviceFault.{DeviceFault}
+use Rattle.device.specs.Disk.{Bytes, refused, refusal}
+use Rattle.device.specs.Answers.{number, where-at}
+use Rattle.layout.specs.declared.exception.Exception.{Exception}
+use Rattle.store.specs.declared.fault.StoreFault.{StoreFault}
+use Rattle.store.specs.declared.fault.StoreFault.the-variants.{Device}
+use Rattle.store.specs.declared.scan.End.{End}
+use Rattle.store.specs.Refusals.{up}
+use Rattle.store.specs.Answers.{told, told-end, numbers}
+
+-- where a device refused with y
+pub passed-up : {A B : Type 0} (r : Result A StoreFault) (b : B) (y : DeviceFault) → ErrBy r (λ x. x ≡ Device y) → told r b ≡ refused (up (refusal (number y) (where-at y)))
+passed-up (Ok a) b y h = absurd h
+passed-up (Err x) b y h = ap (λ z. refused (numbers z)) h
+
+-- the same of a scan
+pub scan-passed-up : (r : Result End StoreFault) (es : List Exception) (bytes : Bytes) (y : DeviceFault) → ErrBy r (λ x. x ≡ Device y) → told-end r es bytes ≡ refused (up (refusal (number y) (where-at y)))
+scan-passed-up (Ok a) es bytes y h = absurd h
+scan-passed-up (Err x) es bytes y h = ap (λ z. refused (numbers z)) h
