@@ -1,13 +1,13 @@
 -- A buffer that was filled holds what was gathered.
 use mathlib.Core.Path.{_≡_, refl, sym, ap, ap₂, subst, _∙_}
 use mathlib.Core.List.{List, [], _∷_, _++_, append-nil}
-use Prim.Native.Nat.{ℕ, zero, suc, _+_, _*_, _/_, _%_}
+use Prim.Native.Nat.{ℕ, zero, suc, _+_, _-_, _*_, _/_, _%_}
 use native.Mathlib.Omega.{arith}
 use lib.ListN.{length, drop, length-drop}
 use Rattle.std.proofs.shelf.Lists.{nil-from-length}
 use Rattle.device.specs.Disk.{Bytes, Disk, Fate, reads, way, Told, good, refused, Refusal, told-by, after-by}
-use Rattle.device.specs.Plans.{Plan, done, call, Ended, ended, astray, run, Runs, one, onward, gathering, Filled, filling, reading-into}
-use Rattle.device.proofs.Loops.{reading-whole, none-yet}
+use Rattle.device.specs.Plans.{Plan, done, call, Ended, ended, astray, run, Runs, one, onward, gathering, spreading, Filled, filling, reading-into, writing-from}
+use Rattle.device.proofs.Loops.{reading-whole, writing-whole, none-yet}
 use Rattle.device.proofs.Steps.{never}
 
 -- an answer, with the buffer that a good one filled
@@ -44,3 +44,10 @@ read-gathers s buffer {d} {e} {f} n long r =
     let count : length buffer / 512 ≡ n = omega arith in
     let plan : reading-into s buffer ≡ filling s n [] buffer = reading-whole s buffer whole ∙ ap (λ k. filling s k [] buffer) (sym (none-yet (length buffer / 512)) ∙ count) in
     record { fates = r .fates; comes = gathers n s [] buffer long (r .fates) d (subst (λ p. run one p (r .fates) d ≡ ended f e) plan (r .comes)) }
+
+-- writing a buffer of n sectors
+pub writes-spread : (s : ℕ) (bytes : Bytes) (n : ℕ) → length bytes ≡ 512 * n → writing-from s bytes ≡ spreading s n bytes
+writes-spread s bytes n long =
+    let whole : length bytes % 512 ≡ 0 = omega arith in
+    let count : length bytes / 512 - 0 ≡ n = omega arith in
+    writing-whole s bytes whole ∙ ap (λ k. spreading s k bytes) count

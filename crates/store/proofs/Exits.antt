@@ -1,9 +1,11 @@
 -- What `?` returns.
 use mathlib.Core.Path.{_≡_, ap}
+use mathlib.Core.Bool.{true}
 use mathlib.Core.List.{List}
+use borrow.Author.Tests.{clash}
 use Rattle.std.specs.declared.result.Result.{Result}
 use Rattle.std.specs.declared.result.Result.the-variants.{Ok, Err}
-use Rattle.std.specs.Results.{ErrBy}
+use Rattle.std.specs.Results.{Cases, ErrBy, isErr}
 use Rattle.device.specs.declared.fault.DeviceFault.{DeviceFault}
 use Rattle.device.specs.Disk.{Bytes, refused, refusal}
 use Rattle.device.specs.Answers.{number, where-at}
@@ -23,3 +25,8 @@ passed-up (Err x) b y h = ap (λ z. refused (numbers z)) h
 pub scan-passed-up : (r : Result End StoreFault) (es : List Exception) (bytes : Bytes) (y : DeviceFault) → ErrBy r (λ x. x ≡ Device y) → told-end r es bytes ≡ refused (up (refusal (number y) (where-at y)))
 scan-passed-up (Ok a) es bytes y h = absurd h
 scan-passed-up (Err x) es bytes y h = ap (λ z. refused (numbers z)) h
+
+-- what holds where a call was refused
+pub refused-case : {T E B : Type 0} (r : Result T E) (A : Type 0) → isErr r ≡ true → B → Cases r (λ _. A) (λ _. B)
+refused-case (Ok a) A h b = absurd (clash h)
+refused-case (Err e) A h b = b

@@ -1,9 +1,13 @@
 // The exception store on the COW device.
+mod clean;
 mod fault;
 mod scan;
+mod sectors;
 mod shape;
+mod store;
 
 pub use fault::FromDevice;
 pub use fault::FromHeader;
 pub use fault::StoreFault;
 pub use shape::Shape;
+pub use store::Store;

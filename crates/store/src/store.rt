@@ -1,0 +1,147 @@
+// A store of exceptions over any device.
+ghost use mathlib.Core.Path.{_≡_};
+ghost use mathlib.Core.List.{[]};
+ghost use Prim.Native.Nat.{_/_};
+ghost use lib.ListN.{length};
+ghost use Rattle.std.specs.Of.Vec.{vec-items};
+ghost use Rattle.std.specs.Results.{Cases};
+ghost use Rattle.device.specs.Plans.{Runs, one, lifted};
+ghost use Rattle.layout.specs.Chunks.{sectors};
+ghost use Rattle.layout.specs.declared.chunk.ChunkSize.the-variants.{One as Smallest};
+ghost use Rattle.exceptions.specs.Table.{entries-at-most, lookup as found-copy, room, last-run, allocated, metadata};
+ghost use Rattle.store.specs.Answers.{told};
+ghost use Rattle.store.specs.Refusals.{up};
+ghost use Rattle.store.specs.Steps.{making, spoiling, enter as entering-chunk, drop-run};
+use crate::fault::FromDevice;
+use crate::fault::StoreFault;
+use crate::sectors::drop_to;
+use crate::sectors::enter_last;
+use crate::sectors::make;
+use crate::sectors::spoil;
+use crate::shape::Shape;
+use device::Device;
+use exceptions::ExceptionTable;
+use layout::ChunkSize;
+use layout::Exception;
+
+// The COW device, the size of its chunks, and its exceptions. The last two mean something once the store was made or opened.
+#[derive(Drop)]
+pub struct Store<C> {
+    cow: C,
+    size: ChunkSize,
+    table: ExceptionTable,
+}
+
+impl<C: Device> Store<C> {
+    // A store over a device that has not been looked at yet.
+    pub fn new(cow: C, mut table: ExceptionTable) -> Store<C>
+        ensures cow { λ r. ⌜ r .cow ≡ cow ⌝ }
+        ensures size { λ r. ⌜ r .size ≡ Smallest ⌝ }
+        ensures table { λ r. ⌜ vec-items (r .table .items) ≡ [] ⌝ }
+    {
+        table.clear();
+        Store {
+            cow,
+            size: ChunkSize::One,
+            table,
+        }
+    }
+
+    // The COW device, and the table's memory for another store.
+    pub fn into_parts(self) -> (C, ExceptionTable)
+        ensures cow { λ r. ⌜ r .0 ≡ self .cow ⌝ }
+        ensures table { λ r. ⌜ r .1 ≡ self .table ⌝ }
+    {
+        (self.cow, self.table)
+    }
+
+    // Makes an empty store with chunks of a size.
+    pub fn make(&mut self, size: ChunkSize) -> Result<(), StoreFault>
+        ensures call { λ r. ⌜ Runs one (lifted up (making (sectors size))) (C·Device .disk (now (self .entry) .cow)) (told r tt) (C·Device .disk (now (self .exit) .cow)) ⌝ }
+        ensures size { λ r. ⌜ Cases r (λ _. now (self .exit) .size ≡ size) (λ _. now (self .exit) .size ≡ now (self .entry) .size) ⌝ }
+        ensures table { λ r. ⌜ Cases r (λ _. vec-items (now (self .exit) .table .items) ≡ []) (λ _. vec-items (now (self .exit) .table .items) ≡ vec-items (now (self .entry) .table .items)) ⌝ }
+    {
+        make(&mut self.cow, size)?;
+        self.size = size;
+        self.table.clear();
+        Ok(())
+    }
+
+    // The header says from now on that the snapshot is invalid.
+    pub fn spoil(&mut self) -> Result<(), StoreFault>
+        ensures call { λ r. ⌜ Runs one (lifted up (spoiling (sectors (now (self .entry) .size)))) (C·Device .disk (now (self .entry) .cow)) (told r tt) (C·Device .disk (now (self .exit) .cow)) ⌝ }
+        ensures size { λ r. ⌜ now (self .exit) .size ≡ now (self .entry) .size ⌝ }
+        ensures table { λ r. ⌜ now (self .exit) .table ≡ now (self .entry) .table ⌝ }
+    {
+        spoil(&mut self.cow, self.size)?;
+        Ok(())
+    }
+
+    // Whether the COW device is on.
+    pub fn is_on(&self) -> bool
+        ensures { λ r. ⌜ r ≡ C·Device .disk (now (self .entry) .cow) .on ⌝ }
+    {
+        self.cow.is_on()
+    }
+
+    // The sectors of the COW device.
+    pub fn sectors(&self) -> u32
+        ensures { λ r. ⌜ r ≡ C·Device .disk (now (self .entry) .cow) .count ⌝ }
+    {
+        self.cow.sectors()
+    }
+
+    pub fn size(&self) -> ChunkSize
+        ensures { λ r. ⌜ r ≡ now (self .entry) .size ⌝ }
+    {
+        self.size
+    }
+
+    pub fn exceptions(&self) -> &[Exception]
+        ensures { λ r. ⌜ now r ≡ vec-items (now (self .entry) .table .items) ⌝ }
+    {
+        self.table.as_slice()
+    }
+
+    // The chunk that has the copy of an old chunk, or nothing where no copy exists.
+    pub fn lookup(&self, old: u64) -> Option<u64>
+        ensures { λ r. ⌜ r ≡ found-copy (vec-items (now (self .entry) .table .items)) old ⌝ }
+    {
+        self.table.lookup(old)
+    }
+
+    // The chunks of the COW device.
+    fn chunks(&self) -> u32
+        ensures { λ r. ⌜ r ≡ C·Device .disk (now (self .entry) .cow) .count / sectors (now (self .entry) .size) ⌝ }
+    {
+        self.cow.sectors() / self.size.sectors()
+    }
+
+    // The place for the next copy, or nothing where an exception has no room.
+    pub fn next_place(&self) -> Option<u64>
+        ensures { λ r. ⌜ r ≡ room entries-at-most (sectors (now (self .entry) .size)) (C·Device .disk (now (self .entry) .cow) .count / sectors (now (self .entry) .size)) (vec-items (now (self .entry) .table .items)) ⌝ }
+    {
+        self.table.next_place(self.size, u64::from(self.chunks()))
+    }
+
+    // How many exceptions the last run has.
+    pub fn last_run(&self) -> usize
+        ensures { λ r. ⌜ r ≡ last-run (sectors (now (self .entry) .size)) (vec-items (now (self .entry) .table .items)) ⌝ }
+    {
+        self.table.last_run(self.size)
+    }
+
+    // Sectors up to the next place, even past the device.
+    pub fn allocated(&self) -> u64
+        ensures { λ r. ⌜ r ≡ allocated (sectors (now (self .entry) .size)) (vec-items (now (self .entry) .table .items)) ⌝ }
+    {
+        self.table.allocated(self.size)
+    }
+
+    // Sectors of the header and of the areas.
+    pub fn metadata(&self) -> u64
+        ensures { λ r. ⌜ r ≡ metadata (sectors (now (self .entry) .size)) (length (vec-items (now (self .entry) .table .items))) ⌝ }
+    {
+        self.table.metadata(self.size)
+    }
+}
