@@ -65,7 +65,9 @@ fn linked(es: &[Exception], n: usize, size: ChunkSize) -> bool
 
 // How many exceptions the last run has.
 pub fn run_length(es: &[Exception], size: ChunkSize) -> usize
-    ensures { λ r. ⌜ r ≡ last-run (sectors size) (now (es .entry)) ⌝ }
+    ensures run { λ r. ⌜ r ≡ last-run (sectors size) (now (es .entry)) ⌝ }
+    ensures within { λ r. ⌜ r ≤ length (now (es .entry)) ⌝ }
+    ensures some { λ r. ⌜ (0 < length (now (es .entry)) → 0 < r) ⌝ }
 {
     let n = es.len();
     if n == 0 {

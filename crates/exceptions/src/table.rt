@@ -2,7 +2,7 @@
 ghost use mathlib.Core.Path.{_≡_};
 ghost use mathlib.Core.Bool.{cond, _&&_};
 ghost use mathlib.Core.List.{[], _∷_, _++_};
-ghost use Prim.Native.Nat.{_≤_, _^_};
+ghost use Prim.Native.Nat.{_^_, _<_, _≤_};
 ghost use lib.Dec.{leb, ltb};
 ghost use lib.ListN.{length, take};
 ghost use Rattle.std.specs.Of.Vec.{vec-len, vec-cap, vec-items};
@@ -138,7 +138,9 @@ impl ExceptionTable {
 
     // How many exceptions the last run has.
     pub fn last_run(&self, size: ChunkSize) -> usize
-        ensures { λ r. ⌜ r ≡ last-run (sectors size) (vec-items (now (self .entry) .items)) ⌝ }
+        ensures run { λ r. ⌜ r ≡ last-run (sectors size) (vec-items (now (self .entry) .items)) ⌝ }
+        ensures within { λ r. ⌜ r ≤ length (vec-items (now (self .entry) .items)) ⌝ }
+        ensures some { λ r. ⌜ (0 < length (vec-items (now (self .entry) .items)) → 0 < r) ⌝ }
     {
         run_length(&self.items, size)
     }

@@ -1,3 +1,4 @@
 pub mod Exits
 pub mod Scans
 pub mod Writes
+pub mod Calls

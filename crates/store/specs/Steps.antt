@@ -17,7 +17,7 @@ use Rattle.exceptions.specs.Table.{entries-at-most, has-old, fills-area, room, 
 use Rattle.store.specs.declared.shape.Shape.{Shape}
 use Rattle.store.specs.Judge.{width, on-data}
 use Rattle.store.specs.Image.{Sizes, header-found, all-zero, cleaned}
-use Rattle.store.specs.Refusals.{because, up, StoreSteps, asking, doing}
+use Rattle.store.specs.Refusals.{StoreRefusal, because, up, StoreSteps, asking, doing}
 use Rattle.store.specs.Scanning.{Ending, most-areas, scanning}
 
 -- ON THE DEVICE ALONE
@@ -80,8 +80,12 @@ pub record Contents : Type 0 where
   pub table : List Exception
 
 -- what stays the same of a store: the size of its chunks, and the chunks of both devices
+abbrev pub shaped : ℕ → ℕ → ChunkSize → Shape
+shaped olds cow size = record { size = size; olds = olds; chunks = cow / sectors size }
+
+-- the same by the sectors of both devices
 abbrev pub shape-of : Sizes → ChunkSize → Shape
-shape-of z size = record { size = size; olds = z .origin / sectors size; chunks = z .cow / sectors size }
+shape-of z size = shaped (z .origin / sectors size) (z .cow) size
 
 -- opening, with a work buffer of so many bytes: the header, the areas, and zeros after the list's end
 abbrev pub opening : Sizes → ℕ → StoreSteps Contents
@@ -110,13 +114,13 @@ drop-run c [] = done (good [])
 drop-run c (x ∷ xs) = doing (dropping c (without-run c (x ∷ xs)) (length (x ∷ xs))) (λ _. done (good (without-run c (x ∷ xs))))
 
 -- the tests of a data call at sector s, with a buffer of so many bytes
-abbrev pub at-data : {A : Type 0} → Shape → ℕ → ℕ → StoreSteps A → StoreSteps A
-at-data shape s len p = cond (eqb len 512) (cond (on-data shape (s / width shape)) p (done (refused (because 2 s 0)))) (done (refused (because 1 0 0)))
+abbrev pub data-test : Shape → ℕ → ℕ → Told StoreRefusal (Unit {0})
+data-test shape s len = cond (eqb len 512) (cond (on-data shape (s / width shape)) (good tt) (refused (because 2 s 0))) (refused (because 1 0 0))
 
 -- a data read
 abbrev pub data-read : Shape → ℕ → ℕ → StoreSteps Bytes
-data-read shape s len = at-data shape s len (asking (reads len s) (λ b. done (good b)))
+data-read shape s len = onward (data-test shape s len) (λ _. asking (reads len s) (λ b. done (good b)))
 
 -- a data write
 abbrev pub data-write : Shape → ℕ → Bytes → StoreSteps (Unit {0})
-data-write shape s bytes = at-data shape s (length bytes) (asking (writes s bytes) (λ _. done (good tt)))
+data-write shape s bytes = onward (data-test shape s (length bytes)) (λ _. asking (writes s bytes) (λ _. done (good tt)))

@@ -1,7 +1,7 @@
 // A store of exceptions over any device.
 ghost use mathlib.Core.Path.{_≡_};
 ghost use mathlib.Core.List.{[]};
-ghost use Prim.Native.Nat.{_/_};
+ghost use Prim.Native.Nat.{_/_, _≤_};
 ghost use lib.ListN.{length};
 ghost use Rattle.std.specs.Of.Vec.{vec-items};
 ghost use Rattle.std.specs.Results.{Cases};
@@ -11,7 +11,7 @@ ghost use Rattle.layout.specs.declared.chunk.ChunkSize.the-variants.{One as Sma
 ghost use Rattle.exceptions.specs.Table.{entries-at-most, lookup as found-copy, room, last-run, allocated, metadata};
 ghost use Rattle.store.specs.Answers.{told};
 ghost use Rattle.store.specs.Refusals.{up};
-ghost use Rattle.store.specs.Steps.{making, spoiling, enter as entering-chunk, drop-run};
+ghost use Rattle.store.specs.Steps.{finished, flushing, making, spoiling, shaped, enter as entering-chunk, drop-run, data-test, data-read, data-write};
 use crate::fault::FromDevice;
 use crate::fault::StoreFault;
 use crate::sectors::drop_to;
@@ -126,7 +126,8 @@ impl<C: Device> Store<C> {
 
     // How many exceptions the last run has.
     pub fn last_run(&self) -> usize
-        ensures { λ r. ⌜ r ≡ last-run (sectors (now (self .entry) .size)) (vec-items (now (self .entry) .table .items)) ⌝ }
+        ensures run { λ r. ⌜ r ≡ last-run (sectors (now (self .entry) .size)) (vec-items (now (self .entry) .table .items)) ⌝ }
+        ensures within { λ r. ⌜ r ≤ length (vec-items (now (self .entry) .table .items)) ⌝ }
     {
         self.table.last_run(self.size)
     }
@@ -143,5 +144,108 @@ impl<C: Device> Store<C> {
         ensures { λ r. ⌜ r ≡ metadata (sectors (now (self .entry) .size)) (length (vec-items (now (self .entry) .table .items))) ⌝ }
     {
         self.table.metadata(self.size)
+    }
+
+    // The numbers of this store that stay, over an origin of so many chunks.
+    fn shape(&self, olds: u32) -> Shape
+        ensures { λ r. ⌜ r ≡ shaped olds (C·Device .disk (now (self .entry) .cow) .count) (now (self .entry) .size) ⌝ }
+    {
+        Shape {
+            size: self.size,
+            olds,
+            chunks: self.chunks(),
+        }
+    }
+
+    // Enters an old chunk of an origin with so many chunks, at the next place.
+    pub fn enter(&mut self, olds: u32, old: u64) -> Result<(), StoreFault>
+        ensures call { λ r. ⌜ Runs one (entering-chunk (shaped olds (C·Device .disk (now (self .entry) .cow) .count) (now (self .entry) .size)) (vec-items (now (self .entry) .table .items)) old) (C·Device .disk (now (self .entry) .cow)) (told r (vec-items (now (self .exit) .table .items))) (C·Device .disk (now (self .exit) .cow)) ⌝ }
+        ensures size { λ r. ⌜ now (self .exit) .size ≡ now (self .entry) .size ⌝ }
+        ensures table { λ r. ⌜ Cases r (λ _. Unit {0}) (λ _. vec-items (now (self .exit) .table .items) ≡ vec-items (now (self .entry) .table .items)) ⌝ }
+    {
+        if self.table.lookup(old).is_some() || old >= u64::from(olds) {
+            return Err(StoreFault::Chunk(old));
+        }
+        let Some(new) = self.next_place() else {
+            return Err(StoreFault::Full(old));
+        };
+        let n = self.table.len();
+        self.table.push(Exception { old, new });
+        match enter_last(&mut self.cow, self.size, self.table.as_slice(), n as u32) {
+            Ok(()) => Ok(()),
+            Err(fault) => {
+                self.table.truncate(n);
+                Err(StoreFault::Device(fault))
+            }
+        }
+    }
+
+    // Drops the last run from the list.
+    pub fn drop_last_run(&mut self) -> Result<(), StoreFault>
+        ensures call { λ r. ⌜ Runs one (drop-run (sectors (now (self .entry) .size)) (vec-items (now (self .entry) .table .items))) (C·Device .disk (now (self .entry) .cow)) (told r (vec-items (now (self .exit) .table .items))) (C·Device .disk (now (self .exit) .cow)) ⌝ }
+        ensures size { λ r. ⌜ now (self .exit) .size ≡ now (self .entry) .size ⌝ }
+        ensures table { λ r. ⌜ Cases r (λ _. Unit {0}) (λ _. vec-items (now (self .exit) .table .items) ≡ vec-items (now (self .entry) .table .items)) ⌝ }
+    {
+        let n = self.table.len();
+        let run = self.table.last_run(self.size);
+        if n == 0 {
+            return Ok(());
+        }
+        let left = n - run;
+        drop_to(
+            &mut self.cow,
+            self.size,
+            &self.table.as_slice()[0..left],
+            n as u32,
+        )?;
+        self.table.truncate(left);
+        Ok(())
+    }
+
+    // Reads a sector of a data chunk, with an origin of so many chunks.
+    pub fn data_read(&mut self, sector: u32, buffer: &mut [u8]) -> Result<(), StoreFault>
+        ensures call { λ r. ⌜ Runs one (data-read (shaped 0 (C·Device .disk (now (self .entry) .cow) .count) (now (self .entry) .size)) sector (length (now (buffer .entry)))) (C·Device .disk (now (self .entry) .cow)) (told r (now (buffer .exit))) (C·Device .disk (now (self .exit) .cow)) ⌝ }
+        ensures size { λ r. ⌜ now (self .exit) .size ≡ now (self .entry) .size ⌝ }
+        ensures table { λ r. ⌜ now (self .exit) .table ≡ now (self .entry) .table ⌝ }
+        ensures untouched { λ r. ⌜ Cases r (λ _. Unit {0}) (λ _. now (buffer .exit) ≡ now (buffer .entry)) ⌝ }
+    {
+        self.check_data(sector, buffer.len())?;
+        self.cow.read(sector, buffer)?;
+        Ok(())
+    }
+
+    // Writes a sector of a data chunk.
+    pub fn data_write(&mut self, sector: u32, bytes: &[u8]) -> Result<(), StoreFault>
+        ensures call { λ r. ⌜ Runs one (data-write (shaped 0 (C·Device .disk (now (self .entry) .cow) .count) (now (self .entry) .size)) sector (now (bytes .entry))) (C·Device .disk (now (self .entry) .cow)) (told r tt) (C·Device .disk (now (self .exit) .cow)) ⌝ }
+        ensures size { λ r. ⌜ now (self .exit) .size ≡ now (self .entry) .size ⌝ }
+        ensures table { λ r. ⌜ now (self .exit) .table ≡ now (self .entry) .table ⌝ }
+    {
+        self.check_data(sector, bytes.len())?;
+        self.cow.write(sector, bytes)?;
+        Ok(())
+    }
+
+    // Whether so many bytes are a sector, and the sector is one of a data chunk.
+    fn check_data(&self, sector: u32, len: usize) -> Result<(), StoreFault>
+        ensures { λ r. ⌜ told r tt ≡ data-test (shaped 0 (C·Device .disk (now (self .entry) .cow) .count) (now (self .entry) .size)) sector len ⌝ }
+    {
+        if len != 512 {
+            return Err(StoreFault::Length);
+        }
+        if !self.shape(0)
+            .on_data(u64::from(sector / self.size.sectors())) {
+            return Err(StoreFault::Sector(sector));
+        }
+        Ok(())
+    }
+
+    // Flushes the COW device.
+    pub fn flush(&mut self) -> Result<(), StoreFault>
+        ensures call { λ r. ⌜ Runs one (lifted up (flushing finished)) (C·Device .disk (now (self .entry) .cow)) (told r tt) (C·Device .disk (now (self .exit) .cow)) ⌝ }
+        ensures size { λ r. ⌜ now (self .exit) .size ≡ now (self .entry) .size ⌝ }
+        ensures table { λ r. ⌜ now (self .exit) .table ≡ now (self .entry) .table ⌝ }
+    {
+        self.cow.flush()?;
+        Ok(())
     }
 }

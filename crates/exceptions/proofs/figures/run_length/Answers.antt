@@ -17,4 +17,4 @@ returns c =
     let none : reach n (c .args .es .now) (c .loop-first .first) ≡ 0 =
     elim (c .loop-first-test .came) [ then-loop-first-test·else-linked w ↦ reach-over n (c .args .es .now) (c .loop-first .first) (w .loop-first-test .taken) (sym (w .if-linked .ensures tt)) | else-loop-first-test w ↦ reach-start n (c .args .es .now) (c .loop-first .first) (w .loop-first-test .left) ] in
     let all = run-is n (c .args .es .now) (omega arith) in
-    omega arith
+    record { run = omega arith; within = omega arith; some = λ _. omega arith }
