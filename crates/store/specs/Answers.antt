@@ -30,6 +30,11 @@ abbrev pub told : {A B : Type 0} → Result A StoreFault → B → Told StoreRef
 told (Ok _) b = good b
 told (Err e) b = refused (numbers e)
 
+-- an answer, with the value of a good one
+abbrev pub gave : {A : Type 0} → Result A StoreFault → Told StoreRefusal A
+gave (Ok a) = good a
+gave (Err e) = refused (numbers e)
+
 -- a scan's answer, with the exceptions and the last area's bytes
 abbrev pub told-end : Result End StoreFault → List Exception → Bytes → Told StoreRefusal Ending
 told-end (Ok e) es bytes = good (ending es (e .area) (e .place) bytes)

@@ -87,13 +87,23 @@ shaped olds cow size = record { size = size; olds = olds; chunks = cow / sectors
 abbrev pub shape-of : Sizes → ChunkSize → Shape
 shape-of z size = shaped (z .origin / sectors size) (z .cow) size
 
--- opening, with a work buffer of so many bytes: the header, the areas, and zeros after the list's end
+-- the exceptions of the areas, and zeros after their end
+abbrev pub loading : Shape → StoreSteps (List Exception)
+loading s = then (scanning s most-areas 0 []) (λ e. doing (cleaning (width s) e) (λ _. done (good (e .table))))
+
+-- the header
+abbrev pub heading : Sizes → StoreSteps ChunkSize
+heading z = asking (reads 512 0) (λ h. done (header-found z h))
+
+-- the store's shape by its header
+abbrev pub shape-heading : Sizes → StoreSteps Shape
+shape-heading z = then (heading z) (λ size. done (good (shape-of z size)))
+
+-- opening, with a work buffer of so many bytes
 abbrev pub opening : Sizes → ℕ → StoreSteps Contents
 opening z work =
     cond (eqb work 8192)
-    (asking (reads 512 0) (λ h. onward (header-found z h) (λ size.
-    then (scanning (shape-of z size) most-areas 0 []) (λ e.
-    doing (cleaning (sectors size) e) (λ _. done (good (record { size = size; table = e .table })))))))
+    (then (shape-heading z) (λ s. then (loading s) (λ table. done (good (record { size = s .size; table = table })))))
     (done (refused (because 1 0 0)))
 
 -- the new exception at a place, if there is one

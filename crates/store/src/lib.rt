@@ -1,6 +1,7 @@
 // The exception store on the COW device.
 mod clean;
 mod fault;
+mod open;
 mod scan;
 mod sectors;
 mod shape;

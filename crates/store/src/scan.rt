@@ -1,10 +1,12 @@
 // The exceptions on a device, area by area.
 ghost use mathlib.Core.Path.{_≡_};
 ghost use mathlib.Core.List.{[]};
-ghost use Prim.Native.Nat.{_*_};
+ghost use Prim.Native.Nat.{_*_, _<_};
 ghost use lib.ListN.{length};
 ghost use Rattle.std.specs.Of.Vec.{vec-items};
+ghost use Rattle.std.specs.Results.{Cases};
 ghost use Rattle.device.specs.Plans.{Runs, one};
+ghost use Rattle.layout.specs.Chunks.{per-area};
 ghost use Rattle.store.specs.Answers.{told-end};
 ghost use Rattle.store.specs.Judge.{width};
 ghost use Rattle.store.specs.Scanning.{most-areas, scanning};
@@ -34,7 +36,8 @@ pub fn scan<D: Device>(
     bytes: &mut [u8],
 ) -> Result<End, StoreFault>
     requires { ⌜ length (now bytes) ≡ 512 * width shape ⌝ ∗ ⌜ vec-items (now table .items) ≡ [] ⌝ }
-    ensures { λ r. ⌜ Runs one (scanning shape most-areas 0 []) (disk (now (device .entry))) (told-end r (vec-items (now (table .exit) .items)) (now (bytes .exit))) (disk (now (device .exit))) ⌝ }
+    ensures call { λ r. ⌜ Runs one (scanning shape most-areas 0 []) (disk (now (device .entry))) (told-end r (vec-items (now (table .exit) .items)) (now (bytes .exit))) (disk (now (device .exit))) ⌝ }
+    ensures within { λ r. ⌜ Cases r (λ e. (e .place < per-area (width shape)) × (e .area < 65)) (λ _. Unit {0}) ⌝ }
 {
     let per_area = shape.size.entries_per_area();
     let mut end = None;

@@ -9,11 +9,13 @@ ghost use Rattle.device.specs.Plans.{Runs, one, lifted};
 ghost use Rattle.layout.specs.Chunks.{sectors};
 ghost use Rattle.layout.specs.declared.chunk.ChunkSize.the-variants.{One as Smallest};
 ghost use Rattle.exceptions.specs.Table.{entries-at-most, lookup as found-copy, room, last-run, allocated, metadata};
-ghost use Rattle.store.specs.Answers.{told};
+ghost use Rattle.store.specs.Answers.{told, gave};
 ghost use Rattle.store.specs.Refusals.{up};
-ghost use Rattle.store.specs.Steps.{finished, flushing, making, spoiling, shaped, enter as entering-chunk, drop-run, data-test, data-read, data-write};
+ghost use Rattle.store.specs.Steps.{shape-heading, opening, finished, flushing, making, spoiling, shaped, enter as entering-chunk, drop-run, data-test, data-read, data-write};
 use crate::fault::FromDevice;
 use crate::fault::StoreFault;
+use crate::open::load;
+use crate::open::read_header;
 use crate::sectors::drop_to;
 use crate::sectors::enter_last;
 use crate::sectors::make;
@@ -65,6 +67,45 @@ impl<C: Device> Store<C> {
         self.size = size;
         self.table.clear();
         Ok(())
+    }
+
+    // Opens what stands on the device, for an origin of so many sectors; the work buffer is 8,192 bytes.
+    pub fn open(&mut self, origin: u32, work: &mut [u8]) -> Result<(), StoreFault>
+        ensures call { λ r. ⌜ Runs one (opening (record { origin = origin; cow = C·Device .disk (now (self .entry) .cow) .count }) (length (now (work .entry)))) (C·Device .disk (now (self .entry) .cow)) (told r (record { size = now (self .exit) .size; table = vec-items (now (self .exit) .table .items) })) (C·Device .disk (now (self .exit) .cow)) ⌝ }
+        ensures size { λ r. ⌜ Cases r (λ _. Unit {0}) (λ _. now (self .exit) .size ≡ now (self .entry) .size) ⌝ }
+        ensures table { λ r. ⌜ Cases r (λ _. Unit {0}) (λ _. vec-items (now (self .exit) .table .items) ≡ []) ⌝ }
+    {
+        self.table.clear();
+        if work.len() != 8192 {
+            return Err(StoreFault::Length);
+        }
+        let shape = self.read_shape(origin)?;
+        let area = 512 * shape.size.sectors() as usize;
+        match load(&mut self.cow, &mut self.table, shape, &mut work[0..area]) {
+            Ok(()) => {
+                self.size = shape.size;
+                Ok(())
+            }
+            Err(fault) => {
+                self.table.clear();
+                Err(fault)
+            }
+        }
+    }
+
+    // The numbers of a store by its header.
+    fn read_shape(&mut self, origin: u32) -> Result<Shape, StoreFault>
+        ensures call { λ r. ⌜ Runs one (shape-heading (record { origin = origin; cow = C·Device .disk (now (self .entry) .cow) .count })) (C·Device .disk (now (self .entry) .cow)) (gave r) (C·Device .disk (now (self .exit) .cow)) ⌝ }
+        ensures size { λ r. ⌜ now (self .exit) .size ≡ now (self .entry) .size ⌝ }
+        ensures table { λ r. ⌜ now (self .exit) .table ≡ now (self .entry) .table ⌝ }
+    {
+        let cow = self.cow.sectors();
+        let size = read_header(&mut self.cow, origin)?;
+        Ok(Shape {
+            size,
+            olds: origin / size.sectors(),
+            chunks: cow / size.sectors(),
+        })
     }
 
     // The header says from now on that the snapshot is invalid.

@@ -13,7 +13,7 @@ use Rattle.device.proofs.Steps.{same, _⨾_, ends, ends-as}
 use Rattle.layout.specs.Chunks.{per-area}
 use Rattle.store.specs.Judge.{width}
 use Rattle.store.specs.Scanning.{scanning, parsed, ending}
-use Rattle.store.proofs.Exits.{scan-passed-up}
+use Rattle.store.proofs.Exits.{scan-passed-up, not-good}
 use Rattle.store.proofs.Scans.{got, so, scanning-none, at-end, at-many, at-damage, at-next, at-last, closes, neither, just}
 use Rattle.store.proofs.scan.scan.Needs as need
 use Rattle.store.proofs.scan.scan.Needs.{else-areas-test, then-areas-test·in-Continue-read-sectors·then-loop-place-test·then-e-eq0}
@@ -23,22 +23,23 @@ areas-holds g c = (refl, same (ap (scanning (c .args .shape) 65 0) (sym (c .pre 
 
 pub returns-in-Break-read-sectors : need.returns-in-Break-read-sectors
 returns-in-Break-read-sectors g c =
-    ends-as (scan-passed-up (c .from-residual .result) _ _ _ (c .from-residual .ensures .1))
-    (got (c .args .shape) (c .areas .area) _ (c .area-sector .result) (c .areas .bytes) (c .areas .inv .1) (c .areas-test .taken) (c .area-sector .ensures .place) (c .areas .kept .bytes ∙ c .pre .0) (c .in-Break-read-sectors .ensures tt))
+    let call = ends-as (scan-passed-up (c .from-residual .result) _ _ _ (c .from-residual .ensures .1))
+    (got (c .args .shape) (c .areas .area) _ (c .area-sector .result) (c .areas .bytes) (c .areas .inv .1) (c .areas-test .taken) (c .area-sector .ensures .place) (c .areas .kept .bytes ∙ c .pre .0) (c .in-Break-read-sectors .ensures tt)) in
+    record { call = call; within = not-good (c .from-residual .result) _ (c .from-residual .ensures .0) }
 
 pub returns-then-is-full : need.returns-then-is-full
 returns-then-is-full g c =
     let s = c .args .shape in
     let bytes = c .read-sectors .last .buffer in
     let here = got s (c .areas .area) _ (c .area-sector .result) (c .areas .bytes) (c .areas .inv .1) (c .areas-test .taken) (c .area-sector .ensures .place) (c .areas .kept .bytes ∙ c .pre .0) (c .in-Continue-read-sectors .ensures tt) in
-    ends (so s (c .areas .area) bytes here (c .loop-place .inv .1 ∙ at-many s (c .areas .area) bytes (c .loop-place .place) _ (c .entry-at-e .ensures) (omega arith) (c .if-e-eq0 .left) (sym (c .if-is-full .ensures tt))))
+    record { call = ends (so s (c .areas .area) bytes here (c .loop-place .inv .1 ∙ at-many s (c .areas .area) bytes (c .loop-place .place) _ (c .entry-at-e .ensures) (omega arith) (c .if-e-eq0 .left) (sym (c .if-is-full .ensures tt)))); within = tt }
 
 pub returns-then-is-damaged : need.returns-then-is-damaged
 returns-then-is-damaged g c =
     let s = c .args .shape in
     let bytes = c .read-sectors .last .buffer in
     let here = got s (c .areas .area) _ (c .area-sector .result) (c .areas .bytes) (c .areas .inv .1) (c .areas-test .taken) (c .area-sector .ensures .place) (c .areas .kept .bytes ∙ c .pre .0) (c .in-Continue-read-sectors .ensures tt) in
-    ends (so s (c .areas .area) bytes here (c .loop-place .inv .1 ∙ at-damage s (c .areas .area) bytes (c .loop-place .place) _ (c .entry-at-e .ensures) (omega arith) (c .if-e-eq0 .left) (sym (c .if-is-full .ensures tt)) (sym (c .is-damaged .ensures .damaged) ∙ c .if-is-damaged .taken)))
+    record { call = ends (so s (c .areas .area) bytes here (c .loop-place .inv .1 ∙ at-damage s (c .areas .area) bytes (c .loop-place .place) _ (c .entry-at-e .ensures) (omega arith) (c .if-e-eq0 .left) (sym (c .if-is-full .ensures tt)) (sym (c .is-damaged .ensures .damaged) ∙ c .if-is-damaged .taken))); within = tt }
 
 pub loop-place-again : need.loop-place-again
 loop-place-again g c =
@@ -69,12 +70,15 @@ returns-in-Some g c =
           let bytes = w .read-sectors .last .buffer in
           let here = got s (c .areas .area) _ (w .area-sector .result) (c .areas .bytes) (c .areas .inv .1) (w .areas-test .taken) (w .area-sector .ensures .place) (c .areas .kept .bytes ∙ c .pre .0) (w .in-Continue-read-sectors .ensures tt) in
           let end = just (c .in-Some .is) (w .end-is) in
-          closes (so s (c .areas .area) bytes here (w .loop-place .inv .1 ∙ at-end s (c .areas .area) bytes (w .loop-place .place) _ (w .entry-at-e .ensures) (omega arith) (w .if-e-eq0 .taken))) (λ i. good (ending (vec-items (w .table-is i .items)) (end i .area) (end i .place) (w .bytes-is i))) (ap (g .D·Device .disk) (sym (w .device-is)))
+          record {
+            call = closes (so s (c .areas .area) bytes here (w .loop-place .inv .1 ∙ at-end s (c .areas .area) bytes (w .loop-place .place) _ (w .entry-at-e .ensures) (omega arith) (w .if-e-eq0 .taken))) (λ i. good (ending (vec-items (w .table-is i .items)) (end i .area) (end i .place) (w .bytes-is i))) (ap (g .D·Device .disk) (sym (w .device-is)));
+            within = (let h = ap (λ x. x .place) end in omega (arith, w .loop-place-test .taken), let h = ap (λ x. x .area) end in omega (arith, w .areas-test .taken));
+          }
     ]
 
 pub returns-in-None : need.returns-in-None
 returns-in-None g c =
     elim (c .areas-test .came) [
-      | else-areas-test w ↦ closes (c .areas .inv .1 ⨾ same (scanning-none (c .args .shape) (c .areas .area) _ (w .areas-test .left))) refl (ap (g .D·Device .disk) (sym (w .device-is)))
+      | else-areas-test w ↦ record { call = closes (c .areas .inv .1 ⨾ same (scanning-none (c .args .shape) (c .areas .area) _ (w .areas-test .left))) refl (ap (g .D·Device .disk) (sym (w .device-is))); within = tt }
       | then-areas-test·in-Continue-read-sectors·then-loop-place-test·then-e-eq0 w ↦ neither (w .end-is) (c .in-None .is) refl
     ]
