@@ -6,3 +6,4 @@ pub mod Loops
 pub mod Possible
 pub mod Ruled
 pub mod Gathers
+pub mod Uses
