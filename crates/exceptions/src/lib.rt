@@ -3,6 +3,8 @@ mod edges;
 mod figures;
 mod search;
 mod table;
+#[cfg(test)]
+mod tests;
 
 pub use edges::edges_hold;
 pub use search::Keyed;
