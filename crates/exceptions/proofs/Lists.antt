@@ -1,14 +1,13 @@
 -- The largest new chunk and the last run, one exception further on.
-use mathlib.Core.Path.{_≡_, refl, sym, ap, _∙_}
-use mathlib.Core.Bool.{true, false, cond}
+use mathlib.Core.Path.{_≡_, refl, ap, _∙_}
+use mathlib.Core.Bool.{true, false}
 use mathlib.Core.List.{List, [], _∷_, _++_}
-use Prim.Native.Nat.{ℕ, zero, suc, _+_, _-_, _*_, _%_, _^_, max, _<_, _≤_}
+use Prim.Native.Nat.{ℕ, zero, suc, _+_, _-_, _^_, max, _<_, _≤_}
 use native.Mathlib.Omega.{arith}
 use lib.ListN.{length, getD, take, drop}
 use Rattle.std.proofs.shelf.Lists.{drop-more, drop-all}
-use Rattle.std.proofs.shelf.Tests.{cond-true, cond-false, eq-eqb, ne-eqb}
+use Rattle.std.proofs.shelf.Tests.{cond-true, cond-false}
 use Rattle.layout.specs.declared.exception.Exception.{Exception}
-use Rattle.layout.specs.Chunks.{is-area}
 use Rattle.layout.specs.Entries.{nothing}
 use Rattle.exceptions.specs.Table.{Below, news, largest, past-area, next-place, linked, reach, last-run}
 
@@ -63,10 +62,3 @@ module _ (number : Exception → ℕ) where
 pub next-place-is : (c : ℕ) (es : List Exception) → 0 < length es → next-place c es ≡ past-area c (largest es + 1)
 next-place-is c [] h = absurd (omega arith)
 next-place-is c (x ∷ xs) h = refl
-
-module _ (c : ℕ) (es : List Exception) (some : 0 < length es) where
-  pub past : (largest es + 1) % (32 * c + 1) ≡ 1 → largest es + 1 + 1 ≡ next-place c es
-  past h = sym (next-place-is c es some ∙ cond-true (is-area c (largest es + 1)) _ _ (eq-eqb _ _ h))
-
-  pub right-there : ((largest es + 1) % (32 * c + 1) ≡ 1 → ⊥) → largest es + 1 ≡ next-place c es
-  right-there h = sym (next-place-is c es some ∙ cond-false (is-area c (largest es + 1)) _ _ (ne-eqb _ _ h))

@@ -1,2 +1,4 @@
 pub mod Search
 pub mod Table
+pub mod Edges
+pub mod Examples

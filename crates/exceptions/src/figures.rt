@@ -4,7 +4,7 @@ ghost use mathlib.Core.Bool.{true};
 ghost use Prim.Native.Nat.{_+_, _*_, _^_, _<_, _≤_};
 ghost use lib.ListN.{length};
 ghost use Rattle.layout.specs.Chunks.{sectors};
-ghost use Rattle.exceptions.specs.Table.{Below, news, largest as largest-new, next-place, has-room, follows as follows-on, linked as are-linked, last-run, metadata as metadata-sectors};
+ghost use Rattle.exceptions.specs.Table.{Below, news, largest as largest-new, past-area, next-place, has-room, follows as follows-on, linked as are-linked, last-run, metadata as metadata-sectors};
 use layout::ChunkSize;
 use layout::Exception;
 
@@ -19,6 +19,19 @@ fn largest(es: &[Exception]) -> u64
     best
 }
 
+// The chunk `k`, or the next one where `k` is an area.
+fn past_area(k: u64, size: ChunkSize) -> u64
+    requires { ⌜ k ≤ 2 ^ 32 ⌝ }
+    ensures past { λ r. ⌜ r ≡ past-area (sectors size) k ⌝ }
+    ensures small { λ r. ⌜ r ≤ k + 1 ⌝ }
+{
+    if k % (u64::from(size.entries_per_area()) + 1) == 1 {
+        k + 1
+    } else {
+        k
+    }
+}
+
 // The next place for a copy, be it on the device or not.
 pub fn place_after(es: &[Exception], size: ChunkSize) -> u64
     requires { ⌜ Below news (now es) ⌝ }
@@ -28,12 +41,7 @@ pub fn place_after(es: &[Exception], size: ChunkSize) -> u64
     if es.is_empty() {
         return 2;
     }
-    let next = largest(es) + 1;
-    if next % (u64::from(size.entries_per_area()) + 1) == 1 {
-        next + 1
-    } else {
-        next
-    }
+    past_area(largest(es) + 1, size)
 }
 
 // Whether exception number `n` may be entered at a place, on a device of so many chunks.

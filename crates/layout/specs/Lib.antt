@@ -2,3 +2,4 @@ pub mod Chunks
 pub mod Numbers
 pub mod Entries
 pub mod Headers
+pub mod Examples

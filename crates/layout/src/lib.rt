@@ -4,6 +4,8 @@ mod chunk;
 mod exception;
 mod header;
 mod number;
+#[cfg(test)]
+mod tests;
 
 pub use area::entries_are_read_back;
 pub use area::entry_at;

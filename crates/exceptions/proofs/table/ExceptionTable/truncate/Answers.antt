@@ -10,4 +10,4 @@ ghost-self c =
     let was = c .args .self .now in
     let list = vec-items (was .items) in
     let is = sym (c .truncate .ensures .items) in
-    (search needs, (search needs, (subst (Below olds) is (take-below olds (c .args .n) list (was .oldbits)), (subst (Below news) is (take-below news (c .args .n) list (was .newbits)), tt))))
+    (search needs, (search needs, (subst (Below olds) is (take-below olds _ list (was .oldbits)), (subst (Below news) is (take-below news _ list (was .newbits)), tt))))
