@@ -73,7 +73,7 @@ impl ExceptionTable {
     pub fn is_full(&self) -> bool
         ensures { λ r. ⌜ r ≡ leb entries-at-most (length (vec-items (now (self .entry) .items))) ⌝ }
     {
-        self.items.len() >= LIMIT
+        LIMIT <= self.items.len()
     }
 
     pub fn as_slice(&self) -> &[Exception]
