@@ -51,7 +51,7 @@ module _ (d : Disk) (w : Way) where
 
 -- A FATE KEEPS THE RULES
 
-torn-tears : (c : Cell) (bytes : Bytes) (took : Bool) (places : List ℕ) (last : ℕ) → Tears bytes c (torn c bytes took places last)
+pub torn-tears : (c : Cell) (bytes : Bytes) (took : Bool) (places : List ℕ) (last : ℕ) → Tears bytes c (torn c bytes took places last)
 torn-tears c bytes took places last = record { none-else = λ b h. from-offered took b (in-offered took b h) }
   where
     in-offered : (took : Bool) (b : Bytes) → Has (possibilities (torn c bytes took places last)) b → Has (possibilities (cond took (grown c bytes) c)) b

@@ -1,5 +1,6 @@
 -- What was written is read back.
 use mathlib.Core.Path.{_≡_, refl, sym, ap, ap₂, _∙_}
+use mathlib.Core.Bool.{true, false}
 use mathlib.Core.List.{List, [], _∷_, _++_, append-assoc}
 use Prim.Native.Nat.{ℕ, zero, suc, _+_, _-_, _*_, _/_, _%_, _^_, _<_, _≤_}
 use native.Mathlib.Nat.{pow-suc}
@@ -13,6 +14,8 @@ use Rattle.std.proofs.shelf.Bits.{div-below}
 use Rattle.layout.specs.declared.exception.Exception.{Exception}
 use Rattle.layout.specs.Entries.{entry, entry-from, pic, Fits, Read-back}
 use Rattle.layout.specs.Numbers.{le, value}
+use Rattle.layout.specs.declared.chunk.ChunkSize.the-variants.{One, Two, Four, Eight, Sixteen}
+use Rattle.layout.specs.Headers.{Header-back}
 use Rattle.layout.proofs.Made.{length-entries}
 
 pub value-le : (w n : ℕ) → n < 256 ^ w → value (le w n) ≡ n
@@ -80,3 +83,15 @@ read-back = record { number = value-le; bytes = le-value; here = here; past = pa
         let zeros : replicate {A = ℕ} (512 - length front) 0 ≡ replicate more 0 ++ replicate (512 - 16 * k) 0 = let e : 512 - length front ≡ more + (512 - 16 * k) = omega arith in ap (λ n. replicate {A = ℕ} n 0) e ∙ sym (replicate-append-replicate {A = ℕ} more (512 - 16 * k) 0) in
         let place : length (front ++ replicate more 0) ≡ 16 * k = length-append front (replicate more 0) ∙ omega (arith, length-replicate {A = ℕ} more 0) in
         ap (λ l. entry-from (front ++ l) (16 * k)) zeros ∙ ap (λ l. entry-from l (16 * k)) (sym (append-assoc front (replicate more 0) _)) ∙ entry-past (front ++ replicate more 0) (16 * k) (512 - 16 * k) place (omega arith)
+
+pub header-back : Header-back
+header-back true One = refl
+header-back true Two = refl
+header-back true Four = refl
+header-back true Eight = refl
+header-back true Sixteen = refl
+header-back false One = refl
+header-back false Two = refl
+header-back false Four = refl
+header-back false Eight = refl
+header-back false Sixteen = refl

@@ -1,3 +1,10 @@
 pub mod Opens
 pub mod Finds
 pub mod Sheets
+pub mod Stand
+pub mod Allowed
+pub mod Places
+pub mod Pictures
+pub mod Zeros
+pub mod Enters
+pub mod Spoils

@@ -1,2 +1,4 @@
 pub mod Readings
 pub mod Holding
+pub mod Standing
+pub mod Breaks

@@ -1,15 +1,28 @@
 // What a power cut leaves of a store, and what opening finds then. This crate is theory: its functions have no code, and their
 // contracts name the theorems.
-ghost use Rattle.recovery.specs.Readings.{Opening-finds};
+ghost use Rattle.recovery.specs.Breaks.{Entering-breaks, Spoiling-breaks};
 ghost use Rattle.recovery.specs.Holding.{Finds-what-it-holds, Pictures-hold};
+ghost use Rattle.recovery.specs.Readings.{Opening-finds};
+ghost use Rattle.recovery.specs.Standing.{Standing-opens};
 
 // Opening answers what the sectors read, by one definition.
 pub fn opening_finds_what_is_there()
     ensures { λ _. ⌜ Opening-finds ⌝ }
 {}
 
-// A list that the sectors hold is found, and the pictures of a list hold it.
+// A list that the sectors hold is found; the pictures of a list hold it; and what stands on a device is found.
 pub fn what_stands_is_found()
     ensures found { λ _. ⌜ Finds-what-it-holds ⌝ }
     ensures pictures { λ _. ⌜ Pictures-hold ⌝ }
+    ensures standing { λ _. ⌜ Standing-opens ⌝ }
+{}
+
+// Entering broken off anywhere, and any power cut: the list is found with or without the new exception.
+pub fn entering_survives_cuts()
+    ensures { λ _. ⌜ Entering-breaks ⌝ }
+{}
+
+// Spoiling broken off anywhere, and any power cut: the list is found, or the store is invalid.
+pub fn spoiling_survives_cuts()
+    ensures { λ _. ⌜ Spoiling-breaks ⌝ }
 {}
