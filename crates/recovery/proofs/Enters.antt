@@ -33,7 +33,7 @@ use Rattle.recovery.proofs.Stand.{standing-opens}
 use Rattle.recovery.proofs.Zeros.{zeros-read}
 
 -- a plan that goes on where a call was good
-on-good : (A : ℕ → Bytes → Type 0) (p : Bytes → Plan (Unit {0}) (Told Refusal (Unit {0}))) → ((b : Bytes) → Writes A (p b)) → (t : Told Refusal Bytes) → Writes A (onward t p)
+pub on-good : (A : ℕ → Bytes → Type 0) (p : Bytes → Plan (Unit {0}) (Told Refusal (Unit {0}))) → ((b : Bytes) → Writes A (p b)) → (t : Told Refusal Bytes) → Writes A (onward t p)
 on-good A p ok (good b) = ok b
 on-good A p ok (refused r) = tt
 

@@ -8,3 +8,5 @@ pub mod Pictures
 pub mod Zeros
 pub mod Enters
 pub mod Spoils
+pub mod Prefixes
+pub mod Drops

@@ -2,15 +2,16 @@
 use mathlib.Core.Path.{_≡_}
 use mathlib.Core.Logic.{_⊎_}
 use mathlib.Core.List.{List, [], _∷_, _++_}
-use lib.ListN.{length}
+use Prim.Native.Nat.{ℕ, _-_, _/_, _<_, _≤_}
+use lib.ListN.{length, take}
 use Rattle.device.specs.Disk.{Disk, Told, good, refused, Refusal, Cut}
 use Rattle.device.specs.Plans.{Runs, one}
 use Rattle.layout.specs.declared.chunk.ChunkSize.{ChunkSize}
 use Rattle.layout.specs.declared.exception.Exception.{Exception}
-use Rattle.layout.specs.Chunks.{sectors}
+use Rattle.layout.specs.Chunks.{sectors, per-area}
 use Rattle.store.specs.Image.{Sizes}
 use Rattle.store.specs.Refusals.{because}
-use Rattle.store.specs.Steps.{entering, spoiling}
+use Rattle.store.specs.Steps.{entering, dropping, spoiling}
 use Rattle.recovery.specs.Readings.{image, found}
 use Rattle.recovery.specs.Standing.{Listed, Stands, Finds}
 
@@ -31,3 +32,10 @@ Spoiling-breaks =
     (z : Sizes) (size : ChunkSize) (es : List Exception) (d e after : Disk) (t : Told Refusal (Unit {0})) →
     Stands z size es d → Runs one (spoiling (sectors size)) d t e → Cut e after →
     Finds z size es (image after) ⊎ (found z (image after) ≡ refused (because 6 0 0))
+
+-- dropping the exceptions from k on, all in one area, wherever it breaks off: any number of them may have left, from the end
+abbrev pub Dropping-breaks : Type 0
+Dropping-breaks =
+    (z : Sizes) (size : ChunkSize) (es : List Exception) (k : ℕ) (d e after : Disk) (t : Told Refusal (Unit {0})) →
+    Stands z size es d → k ≤ length es → Runs one (dropping (sectors size) (take k es) (length es)) d t e → Cut e after →
+    (i : ℕ) × (k ≤ i) × (i ≤ length es) × Finds z size (take i es) (image after)
