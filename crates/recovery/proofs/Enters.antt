@@ -4,12 +4,11 @@ use mathlib.Core.Bool.{Bool, true, false}
 use mathlib.Core.Logic.{_⊎_, inl, inr, ⊎-elim}
 use mathlib.Core.List.{List, [], _∷_, _++_}
 use Prim.Native.Nat.{ℕ, zero, suc, _+_, _-_, _*_, _/_, _%_, _<_, _≤_}
-use native.Mathlib.Nat.{mul-assoc, mod-lt}
+use native.Mathlib.Nat.{mul-assoc, mod-lt, le-refl}
 use native.Mathlib.Omega.{arith}
 use lib.ListN.{length, replicate}
-use Rattle.std.specs.shelf.Lists.{Has}
 use Rattle.std.proofs.shelf.Tests.{eq-eqb, cases-eq, cases-lt}
-use Rattle.device.specs.Disk.{Bytes, Disk, writes, flushes, leaves, settled, Told, good, refused, Refusal, Cut}
+use Rattle.device.specs.Disk.{Bytes, Disk, writes, flushes, leaves, put, settled, Told, good, refused, Refusal, Cut}
 use Rattle.device.specs.Plans.{Plan, Runs, one, onward, zeroing}
 use Rattle.device.proofs.Uses.{Went, went-on, left-in, was-refused, went, over as run-over, halves}
 use Rattle.device.proofs.Possible.{last-has}
@@ -24,13 +23,13 @@ use Rattle.store.specs.Image.{Sizes}
 use Rattle.store.specs.Steps.{shape-of, finished, flushing, storing, preparing, entering}
 use Rattle.recovery.specs.Readings.{Image, image}
 use Rattle.recovery.specs.Standing.{Within, Standing, Listed, Stands, Finds}
-use Rattle.recovery.specs.Breaks.{more, Entering-breaks}
+use Rattle.recovery.specs.Breaks.{more, Entering-breaks, Entering-stands}
 use Rattle.recovery.proofs.Allowed.{Writes, run-within, by-way, cut-within}
 use Rattle.recovery.proofs.Finds.{sectors-within}
 use Rattle.recovery.proofs.Pictures.{pic-past, length-more, pic-more}
 use Rattle.recovery.proofs.Places.{same-sector, same-area, not-header, placed, placed-at, beyond, fills-mod, fills-div}
 use Rattle.recovery.proofs.Stand.{standing-opens}
-use Rattle.recovery.proofs.Zeros.{zeros-read}
+use Rattle.recovery.proofs.Zeros.{zeros-read, settled-single, put-here, flushed-good, stored-good, then-good}
 
 -- a plan that goes on where a call was good
 pub on-good : (A : ℕ → Bytes → Type 0) (p : Bytes → Plan (Unit {0}) (Told Refusal (Unit {0}))) → ((b : Bytes) → Writes A (p b)) → (t : Told Refusal Bytes) → Writes A (onward t p)
@@ -70,7 +69,7 @@ module _ (z : Sizes) (size : ChunkSize) (es : List Exception) (x : Exception) wh
   preparing-writes false = tt
 
   -- the sector of the new entry
-  entry-sector : ℕ
+  abbrev entry-sector : ℕ
   entry-sector = area-place (sectors size) (length es / 32)
 
   entry-in-list : per-area (sectors size) * (length es / 32 / sectors size) ≤ length es
@@ -81,7 +80,6 @@ module _ (z : Sizes) (size : ChunkSize) (es : List Exception) (x : Exception) wh
 
   -- a list that has its picture in that sector stands, where all else is as it was or as it will be
   resolved : (m : Image) (list : List Exception) → length list ≤ length (more es x) → ((j : ℕ) → (j ≡ length es / 32 → ⊥) → (pic es j ≡ pic list j) × (pic (more es x) j ≡ pic list j)) → m entry-sector ≡ pic list (length es / 32) → ((s : ℕ) → Between s (m s)) → (s : ℕ) → Standing (shape-of z size) list s (m s)
-  unfolding entry-sector
   resolved m list few alike here all s = record {
     head = all s .head;
     areas = λ a q l le is.
@@ -93,7 +91,6 @@ module _ (z : Sizes) (size : ChunkSize) (es : List Exception) (x : Exception) wh
 
   -- whatever is chosen there, one of the two lists is found
   between-opens : (m : Image) → Listed z size es → Listed z size (more es x) → ((s : ℕ) → Between s (m s)) → Finds z size es m ⊎ Finds z size (more es x) m
-  unfolding entry-sector
   between-opens m old new all =
       let j = length es / 32 in
       let at : sectors size * (j / sectors size) + j % sectors size ≡ j = placed (sectors size) j some in
@@ -168,3 +165,15 @@ entering-breaks z size es x d e after t stands listed r cut =
     by : (told : Told Refusal (Unit {0})) (mid : Disk) → Runs one (preparing (fills-area c (length es)) c (length es / per-area c + 1)) d told mid → Runs one (onward told (λ _. rest)) mid t e → Answer
     by (refused f) mid first q = old (subst (Within _) (sym (run-over q .1)) (run-within _ (preparing-writes z size es x (fills-area c (length es))) first (stands .sectors)))
     by (good u) mid first q = flushed mid (run-within _ (preparing-writes z size es x (fills-area c (length es))) first (stands .sectors)) (zeros-next z size es x first) (went q)
+
+pub entering-stands : Entering-stands
+entering-stands z size es x d e stands listed r =
+    let a = then-good (preparing (fills-area (sectors size) (length es)) (sectors size) _) (λ _. flushing (storing (area-place (sectors size) (length es / 32)) (pic (more es x) (length es / 32)))) r in
+    let mid = a .1 in
+    let w = run-within _ (preparing-writes z size es x (fills-area (sectors size) (length es))) (a .2) (stands .sectors) in
+    let between = settled-between z size es x mid w (zeros-next z size es x (a .2)) in
+    let s = stored-good (flushed-good (a .3)) in
+    let all : (t : ℕ) → Between z size es x t (image e t) = λ t. run-within (Between z size es x) (storing-writes _ _ _ (entry-between z size es x)) (flushed-good (a .3)) between t _ (last-has (e .cells t)) in
+    let read : image e (area-place (sectors size) (length es / 32)) ≡ pic (more es x) (length es / 32) = ap (λ y. image y (area-place (sectors size) (length es / 32))) (s .1) ∙ put-here (settled mid) _ _ (s .0) in
+    let standing = resolved z size es x (image e) (more es x) (le-refl _) (λ k ne. (sym (pic-more es x k ne), refl)) read all in
+    record { listed = listed; sectors = λ t b has. subst (Standing (shape-of z size) (more es x) t) (settled-single (put (settled mid) (area-place (sectors size) (length es / 32)) (pic (more es x) (length es / 32)) (s .0)) t b (s .1) has) (standing t) }

@@ -10,3 +10,4 @@ pub mod Enters
 pub mod Spoils
 pub mod Prefixes
 pub mod Drops
+pub mod Makes

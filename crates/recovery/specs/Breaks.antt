@@ -1,5 +1,6 @@
 -- What a call of a store leaves to be found, good or broken off, and after any power cut.
 use mathlib.Core.Path.{_≡_}
+use mathlib.Core.Bool.{true}
 use mathlib.Core.Logic.{_⊎_}
 use mathlib.Core.List.{List, [], _∷_, _++_}
 use Prim.Native.Nat.{ℕ, _-_, _/_, _<_, _≤_}
@@ -9,9 +10,9 @@ use Rattle.device.specs.Plans.{Runs, one}
 use Rattle.layout.specs.declared.chunk.ChunkSize.{ChunkSize}
 use Rattle.layout.specs.declared.exception.Exception.{Exception}
 use Rattle.layout.specs.Chunks.{sectors, per-area}
-use Rattle.store.specs.Image.{Sizes}
+use Rattle.store.specs.Image.{Sizes, well-shaped}
 use Rattle.store.specs.Refusals.{because}
-use Rattle.store.specs.Steps.{entering, dropping, spoiling}
+use Rattle.store.specs.Steps.{making, entering, dropping, spoiling}
 use Rattle.recovery.specs.Readings.{image, found}
 use Rattle.recovery.specs.Standing.{Listed, Stands, Finds}
 
@@ -25,6 +26,16 @@ Entering-breaks =
     (z : Sizes) (size : ChunkSize) (es : List Exception) (x : Exception) (d e after : Disk) (t : Told Refusal (Unit {0})) →
     Stands z size es d → Listed z size (more es x) → Runs one (entering (sectors size) (more es x) (length es)) d t e → Cut e after →
     Finds z size es (image after) ⊎ Finds z size (more es x) (image after)
+
+-- entering, when it is good: the longer list stands
+abbrev pub Entering-stands : Type 0
+Entering-stands =
+    (z : Sizes) (size : ChunkSize) (es : List Exception) (x : Exception) (d e : Disk) →
+    Stands z size es d → Listed z size (more es x) → Runs one (entering (sectors size) (more es x) (length es)) d (good tt) e → Stands z size (more es x) e
+
+-- making, when it is good: an empty list stands
+abbrev pub Making-stands : Type 0
+Making-stands = (z : Sizes) (size : ChunkSize) (d e : Disk) → well-shaped z (sectors size) ≡ true → Runs one (making (sectors size)) d (good tt) e → Stands z size [] e
 
 -- spoiling, wherever it breaks off: the list is found, or the store is invalid
 abbrev pub Spoiling-breaks : Type 0

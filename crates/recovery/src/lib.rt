@@ -1,6 +1,6 @@
 // What a power cut leaves of a store, and what opening finds then. This crate is theory: its functions have no code, and their
 // contracts name the theorems.
-ghost use Rattle.recovery.specs.Breaks.{Dropping-breaks, Entering-breaks, Spoiling-breaks};
+ghost use Rattle.recovery.specs.Breaks.{Dropping-breaks, Entering-breaks, Entering-stands, Making-stands, Spoiling-breaks};
 ghost use Rattle.recovery.specs.Holding.{Finds-what-it-holds, Pictures-hold};
 ghost use Rattle.recovery.specs.Readings.{Opening-finds};
 ghost use Rattle.recovery.specs.Standing.{Standing-opens};
@@ -17,9 +17,16 @@ pub fn what_stands_is_found()
     ensures standing { λ _. ⌜ Standing-opens ⌝ }
 {}
 
-// Entering broken off anywhere, and any power cut: the list is found with or without the new exception.
+// After a good making an empty list stands.
+pub fn making_stands()
+    ensures { λ _. ⌜ Making-stands ⌝ }
+{}
+
+// After a good entering the longer list stands. Broken off anywhere, and after any power cut, the list is found with or without the
+// new exception.
 pub fn entering_survives_cuts()
-    ensures { λ _. ⌜ Entering-breaks ⌝ }
+    ensures stands { λ _. ⌜ Entering-stands ⌝ }
+    ensures breaks { λ _. ⌜ Entering-breaks ⌝ }
 {}
 
 // Spoiling broken off anywhere, and any power cut: the list is found, or the store is invalid.

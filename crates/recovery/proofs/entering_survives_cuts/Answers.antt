@@ -1,5 +1,5 @@
-use Rattle.recovery.proofs.Enters.{entering-breaks}
+use Rattle.recovery.proofs.Enters.{entering-breaks, entering-stands}
 use Rattle.recovery.proofs.entering_survives_cuts.Needs as need
 
 pub returns : need.returns
-returns c = entering-breaks
+returns c = record { stands = entering-stands; breaks = entering-breaks }
