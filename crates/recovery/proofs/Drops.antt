@@ -11,8 +11,10 @@ use Rattle.std.specs.shelf.Lists.{All}
 use Rattle.std.proofs.shelf.Elements.{all-take}
 use Rattle.std.proofs.shelf.Lists.{take-all}
 use Rattle.std.proofs.shelf.Tests.{cases-eq, cases-lt}
-use Rattle.device.specs.Disk.{Bytes, Disk, Told, good, refused, Refusal, Cut}
+use Rattle.device.specs.Disk.{Bytes, Disk, put, settled, Told, good, refused, Refusal, Cut}
 use Rattle.device.specs.Plans.{Plan, Runs, one, onward}
+use Rattle.device.proofs.Possible.{last-has}
+use Rattle.device.proofs.Uses.{over as run-over}
 use Rattle.layout.specs.declared.chunk.ChunkSize.{ChunkSize}
 use Rattle.layout.specs.declared.exception.Exception.{Exception}
 use Rattle.layout.specs.Chunks.{sectors, per-area, area-start, area-place}
@@ -24,7 +26,7 @@ use Rattle.store.specs.Steps.{shape-of, finished, flushing, unwinding, dropping
 use Rattle.recovery.specs.Readings.{Image, image, area-bytes}
 use Rattle.recovery.specs.Holding.{Holds}
 use Rattle.recovery.specs.Standing.{Within, Standing, Listed, Stands, Finds}
-use Rattle.recovery.specs.Breaks.{Dropping-breaks}
+use Rattle.recovery.specs.Breaks.{Dropping-breaks, Dropping-stands}
 use Rattle.recovery.proofs.Allowed.{Writes, run-within, then-writes, cut-within}
 use Rattle.recovery.proofs.Enters.{on-good}
 use Rattle.recovery.proofs.Finds.{sectors-within, finds-what-it-holds}
@@ -33,6 +35,7 @@ use Rattle.recovery.proofs.Places.{same-sector, same-area, not-header, placed,
 use Rattle.recovery.proofs.Prefixes.{long-take, item-take, listed-take, pic-take}
 use Rattle.recovery.proofs.Sheets.{length-pic, entry-in-area}
 use Rattle.recovery.proofs.Stand.{standing-opens, held-opens}
+use Rattle.recovery.proofs.Zeros.{settled-single, put-here, put-elsewhere, flushed-good, written-good, then-good}
 
 module _ (z : Sizes) (size : ChunkSize) (es : List Exception) (k : ℕ) where
   -- with the drop under way, a sector shows the whole list or its beginning
@@ -184,3 +187,62 @@ pub dropping-breaks : Dropping-breaks
 dropping-breaks z size es k d e after t stands few r cut =
     let before : Within (Mixed z size es k) d = λ s b has. let here = stands .sectors s b has in record { head = here .head; areas = λ a q l le at. inl (here .areas a q l le at) } in
     mixed-opens z size es k (image after) (cut-within _ (run-within _ (dropping-writes z size es k (length es)) r before) cut) few (stands .listed)
+
+-- GOOD
+
+-- sectors of areas that stand in one place are the same
+same-place : (c j h : ℕ) → 0 < c → area-place c j ≡ area-place c h → j ≡ h
+same-place c j h some is =
+    let area = same-area c (j / c) (j % c) (h / c) (h % c) (mod-lt j some) (mod-lt h some) is in
+    let sector = same-sector c (j / c) (j % c) (h / c) (h % c) (mod-lt j some) (mod-lt h some) is in
+    sym (placed c j some) ∙ (λ i. c * area i + sector i) ∙ placed c h some
+
+module _ (c : ℕ) (list : List Exception) (some : 0 < c) where
+  -- a good unwinding leaves other sectors as they were, and its own with their pictures
+  unwound-elsewhere : (n j : ℕ) {d e : Disk} → Runs one (unwinding c list j n) d (good tt) e → (s : ℕ) → ((h : ℕ) → j ≤ h → h < j + n → s ≡ area-place c h → ⊥) → image e s ≡ image d s
+  unwound-elsewhere zero j r s out = ap (λ y. image y s) (run-over r .1)
+  unwound-elsewhere (suc n) j {d} r s out =
+      let w = written-good r in
+      unwound-elsewhere n j (w .1) s (λ h le lt. out h le (omega arith)) ∙ put-elsewhere d _ _ (w .0) s (out (j + n) (omega arith) (omega arith))
+
+  unwound : (n j : ℕ) {d e : Disk} → Runs one (unwinding c list j n) d (good tt) e → (h : ℕ) → j ≤ h → h < j + n → image e (area-place c h) ≡ pic list h
+  unwound zero j r h le lt = absurd (omega arith)
+  unwound (suc n) j {d} r h le lt =
+      let w = written-good r in
+      ⊎-elim
+      (λ below. unwound n j (w .1) h le below)
+      (λ above.
+      let same : h ≡ j + n = omega (arith, above) in
+      unwound-elsewhere n j (w .1) _ (λ g l u is. let e = same-place c h g some is in omega arith) ∙ ap (λ i. image (put d (area-place c (j + n)) (pic list (j + n)) (w .0)) (area-place c i)) same ∙ put-here d _ _ (w .0) ∙ ap (pic list) (sym same))
+      (cases-lt h (j + n))
+
+pub dropping-stands : Dropping-stands
+dropping-stands z size es k d e stands less r =
+    let c = sectors size in
+    let kept = take k es in
+    let size-k = long-take es k (omega arith) in
+    let a = then-good (unwinding c kept (length kept / 32) ((length es - 1) / 32 + 1 - length kept / 32)) (λ _. flushing finished) r in
+    let mid = a .1 in
+    let is : e ≡ settled mid = run-over (flushed-good (a .3)) .1 in
+    let low = length kept / 32 in
+    let high = (length es - 1) / 32 + 1 in
+    let some = sectors-within size .0 in
+    let standing : (t : ℕ) → Standing (shape-of z size) kept t (image mid t) = λ t.
+    let was = stands .sectors t (image d t) (last-has (d .cells t)) in
+    record {
+      head = λ at. unwound-elsewhere c kept some _ low (a .2) t (λ h l u there. not-header c (h / c) (h % c) (mod-lt h some) (sym there ∙ at)) ∙ was .head at;
+      areas = λ b q l le at.
+          let j = c * b + q in
+          let place : t ≡ area-place c j = at ∙ placed-at c b q j l refl in
+          let old = was .areas b q l (omega arith) at in
+          let untouched : ((h : ℕ) → low ≤ h → h < low + (high - low) → j ≡ h → ⊥) → image mid t ≡ pic es j = λ out. unwound-elsewhere c kept some _ low (a .2) t (λ h lo hi there. out h lo hi (same-place c j h some (sym place ∙ there))) ∙ old in
+          ⊎-elim
+          (λ before. untouched (λ h lo hi e. omega arith) ∙ sym (pic-take es k j (omega (arith, before))))
+          (λ from.
+          ⊎-elim
+          (λ inside. ap (image mid) place ∙ unwound c kept some _ low (a .2) j from (omega (arith, inside, from)))
+          (λ past. untouched (λ h lo hi e. omega (arith, past)) ∙ pic-past es j (omega (arith, past)) ∙ sym (pic-past kept j (omega (arith, past))))
+          (cases-lt j high))
+          (cases-lt j low);
+    } in
+    record { listed = listed-take es k (omega arith) z size (stands .listed); sectors = λ t x has. subst (Standing (shape-of z size) kept t) (ap (λ y. image y t) (sym is) ∙ settled-single mid t x is has) (standing t) }

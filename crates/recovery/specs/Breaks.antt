@@ -44,7 +44,13 @@ Spoiling-breaks =
     Stands z size es d → Runs one (spoiling (sectors size)) d t e → Cut e after →
     Finds z size es (image after) ⊎ (found z (image after) ≡ refused (because 6 0 0))
 
--- dropping the exceptions from k on, all in one area, wherever it breaks off: any number of them may have left, from the end
+-- dropping the exceptions from k on, when it is good: the beginning stands
+abbrev pub Dropping-stands : Type 0
+Dropping-stands =
+    (z : Sizes) (size : ChunkSize) (es : List Exception) (k : ℕ) (d e : Disk) →
+    Stands z size es d → k < length es → Runs one (dropping (sectors size) (take k es) (length es)) d (good tt) e → Stands z size (take k es) e
+
+-- dropping the exceptions from k on, wherever it breaks off: any number of them may have left, from the end
 abbrev pub Dropping-breaks : Type 0
 Dropping-breaks =
     (z : Sizes) (size : ChunkSize) (es : List Exception) (k : ℕ) (d e after : Disk) (t : Told Refusal (Unit {0})) →

@@ -1,6 +1,6 @@
 // What a power cut leaves of a store, and what opening finds then. This crate is theory: its functions have no code, and their
 // contracts name the theorems.
-ghost use Rattle.recovery.specs.Breaks.{Dropping-breaks, Entering-breaks, Entering-stands, Making-stands, Spoiling-breaks};
+ghost use Rattle.recovery.specs.Breaks.{Dropping-breaks, Dropping-stands, Entering-breaks, Entering-stands, Making-stands, Spoiling-breaks};
 ghost use Rattle.recovery.specs.Holding.{Finds-what-it-holds, Pictures-hold};
 ghost use Rattle.recovery.specs.Readings.{Opening-finds};
 ghost use Rattle.recovery.specs.Standing.{Standing-opens};
@@ -34,7 +34,9 @@ pub fn spoiling_survives_cuts()
     ensures { λ _. ⌜ Spoiling-breaks ⌝ }
 {}
 
-// Dropping broken off anywhere, and any power cut: any number of the dropped exceptions may have left, from the end.
+// After a good dropping the beginning of the list stands. Broken off anywhere, and after any power cut, any number of the dropped
+// exceptions may have left, from the end.
 pub fn dropping_survives_cuts()
-    ensures { λ _. ⌜ Dropping-breaks ⌝ }
+    ensures stands { λ _. ⌜ Dropping-stands ⌝ }
+    ensures breaks { λ _. ⌜ Dropping-breaks ⌝ }
 {}

@@ -1,5 +1,5 @@
-use Rattle.recovery.proofs.Drops.{dropping-breaks}
+use Rattle.recovery.proofs.Drops.{dropping-breaks, dropping-stands}
 use Rattle.recovery.proofs.dropping_survives_cuts.Needs as need
 
 pub returns : need.returns
-returns c = dropping-breaks
+returns c = record { stands = dropping-stands; breaks = dropping-breaks }
