@@ -11,3 +11,4 @@ pub mod Spoils
 pub mod Prefixes
 pub mod Drops
 pub mod Makes
+pub mod Listing

@@ -1,15 +1,17 @@
 -- What a call of a store leaves to be found, good or broken off, and after any power cut.
 use mathlib.Core.Path.{_≡_}
-use mathlib.Core.Bool.{true}
+use mathlib.Core.Bool.{true, false}
 use mathlib.Core.Logic.{_⊎_}
 use mathlib.Core.List.{List, [], _∷_, _++_}
-use Prim.Native.Nat.{ℕ, _-_, _/_, _<_, _≤_}
+use Prim.Native.Nat.{ℕ, _/_, _^_, _<_, _≤_}
 use lib.ListN.{length, take}
+use Rattle.std.specs.declared.option.Option.the-variants.{Some}
 use Rattle.device.specs.Disk.{Disk, Told, good, refused, Refusal, Cut}
 use Rattle.device.specs.Plans.{Runs, one}
 use Rattle.layout.specs.declared.chunk.ChunkSize.{ChunkSize}
 use Rattle.layout.specs.declared.exception.Exception.{Exception}
 use Rattle.layout.specs.Chunks.{sectors, per-area}
+use Rattle.exceptions.specs.Table.{entries-at-most, has-old, room}
 use Rattle.store.specs.Image.{Sizes, well-shaped}
 use Rattle.store.specs.Refusals.{because}
 use Rattle.store.specs.Steps.{making, entering, dropping, spoiling}
@@ -19,6 +21,13 @@ use Rattle.recovery.specs.Standing.{Listed, Stands, Finds}
 -- the list with one more exception
 abbrev pub more : List Exception → Exception → List Exception
 more es x = es ++ (x ∷ [])
+
+-- what the store enters: an old chunk of the origin that has no copy, at the next place; an opening takes the longer list
+abbrev pub Entering-listed : Type 0
+Entering-listed =
+    (z : Sizes) (size : ChunkSize) (es : List Exception) (old p : ℕ) → z .origin < 2 ^ 32 → z .cow < 2 ^ 32 →
+    Listed z size es → has-old es old ≡ false → old < z .origin / sectors size → room entries-at-most (sectors size) (z .cow / sectors size) es ≡ Some p →
+    Listed z size (more es (record { old = old; new = p }))
 
 -- entering, wherever it breaks off: the list is found with or without the new exception
 abbrev pub Entering-breaks : Type 0

@@ -1,6 +1,6 @@
-// What a power cut leaves of a store, and what opening finds then. This crate is theory: its functions have no code, and their
-// contracts name the theorems.
-ghost use Rattle.recovery.specs.Breaks.{Dropping-breaks, Dropping-stands, Entering-breaks, Entering-stands, Making-stands, Spoiling-breaks};
+// What a power cut leaves of a store, and what opening finds then. This crate is theory: its
+// functions have no code, and their contracts name the theorems.
+ghost use Rattle.recovery.specs.Breaks.{Dropping-breaks, Dropping-stands, Entering-breaks, Entering-listed, Entering-stands, Making-stands, Spoiling-breaks};
 ghost use Rattle.recovery.specs.Holding.{Finds-what-it-holds, Pictures-hold};
 ghost use Rattle.recovery.specs.Readings.{Opening-finds};
 ghost use Rattle.recovery.specs.Standing.{Standing-opens};
@@ -10,7 +10,8 @@ pub fn opening_finds_what_is_there()
     ensures { λ _. ⌜ Opening-finds ⌝ }
 {}
 
-// A list that the sectors hold is found; the pictures of a list hold it; and what stands on a device is found.
+// A list that the sectors hold is found; the pictures of a list hold it; and what stands on a
+// device is found.
 pub fn what_stands_is_found()
     ensures found { λ _. ⌜ Finds-what-it-holds ⌝ }
     ensures pictures { λ _. ⌜ Pictures-hold ⌝ }
@@ -22,9 +23,11 @@ pub fn making_stands()
     ensures { λ _. ⌜ Making-stands ⌝ }
 {}
 
-// After a good entering the longer list stands. Broken off anywhere, and after any power cut, the list is found with or without the
-// new exception.
+// What the store enters makes a list that an opening takes. After a good entering that list
+// stands. Broken off anywhere, and after any power cut, the list is found with or without the new
+// exception.
 pub fn entering_survives_cuts()
+    ensures listed { λ _. ⌜ Entering-listed ⌝ }
     ensures stands { λ _. ⌜ Entering-stands ⌝ }
     ensures breaks { λ _. ⌜ Entering-breaks ⌝ }
 {}
@@ -34,8 +37,8 @@ pub fn spoiling_survives_cuts()
     ensures { λ _. ⌜ Spoiling-breaks ⌝ }
 {}
 
-// After a good dropping the beginning of the list stands. Broken off anywhere, and after any power cut, any number of the dropped
-// exceptions may have left, from the end.
+// After a good dropping the beginning of the list stands. Broken off anywhere, and after any power
+// cut, any number of the dropped exceptions may have left, from the end.
 pub fn dropping_survives_cuts()
     ensures stands { λ _. ⌜ Dropping-stands ⌝ }
     ensures breaks { λ _. ⌜ Dropping-breaks ⌝ }
