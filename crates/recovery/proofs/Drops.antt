@@ -106,7 +106,7 @@ module _ (z : Sizes) (size : ChunkSize) (es : List Exception) (k : ℕ) where
 
       in-sector : nth-entry (area-bytes (shape-of z size) m a) i ≡ entry-from (m (area-place (sectors size) (sectors size * a + i / 32))) (16 * (i % 32))
       in-sector =
-          entry-in-area (shape-of z size) m a i (λ q l. sector-long a q l le) inside ∙ ap (λ t. entry-from (m t) (16 * (i % 32))) (placed-at (sectors size) a (i / 32) _ (omega arith) refl)
+          entry-in-area (shape-of z size) m a (λ q l. sector-long a q l le) i inside ∙ ap (λ t. entry-from (m t) (16 * (i % 32))) (placed-at (sectors size) a (i / 32) _ (omega arith) refl)
 
       reads-as : (list : List Exception) → All Fits list → m (area-place (sectors size) (sectors size * a + i / 32)) ≡ pic list (sectors size * a + i / 32) → per-area (sectors size) * a + i < length list → nth-entry (area-bytes (shape-of z size) m a) i ≡ getD list (per-area (sectors size) * a + i) nothing
       reads-as list fits is h =

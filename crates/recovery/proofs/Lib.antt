@@ -12,3 +12,6 @@ pub mod Prefixes
 pub mod Drops
 pub mod Makes
 pub mod Listing
+pub mod Again
+pub mod Tidies
+pub mod Cleans

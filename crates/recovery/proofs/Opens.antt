@@ -20,7 +20,7 @@ use Rattle.store.specs.Steps.{Contents, shape-of, cleaning, loading, heading, s
 use Rattle.recovery.specs.Readings.{image, gathered, area-bytes, scanned, next, found, Opening-finds}
 
 -- an answer x that leaves e: what is due, with no change, or a refusal of the device, which changes no sector
-data Due {A : Type 0} (d : Disk) (due : A) (no-answer : Refusal → A) (x : A) (e : Disk) : Type 0 where
+pub data Due {A : Type 0} (d : Disk) (due : A) (no-answer : Refusal → A) (x : A) (e : Disk) : Type 0 where
   given : x ≡ due → e ≡ d → Due d due no-answer x e
   stopped : (r : Refusal) → x ≡ no-answer r → e .cells ≡ d .cells → Due d due no-answer x e
 
@@ -35,7 +35,7 @@ gathers zero s sofar r = let q = run-over r in given (q .0) (q .1)
 gathers (suc n) s sofar {d} r = read-then n s sofar (λ r′. gathers n (s + 1) (sofar ++ image d s) r′) (went r)
 
 -- a refusal of the device, as the store passes it up
-abbrev upward : {A : Type 0} → Refusal → Told StoreRefusal A
+abbrev pub upward : {A : Type 0} → Refusal → Told StoreRefusal A
 upward r = refused (up r)
 
 -- one area and then the rest
@@ -56,7 +56,7 @@ module _ (n : ℕ) (s : Shape) (a : ℕ) {d e : Disk} {x : Told StoreRefusal End
       let q = run-over (subst (λ t. Runs one (rest es t) e′ x e) is r) in
       stopped f (q .0) (ap (λ z. z .cells) (q .1) ∙ same)
 
-scans : (n : ℕ) (s : Shape) (a : ℕ) (es : List Exception) {d e : Disk} {x : Told StoreRefusal Ending} → Runs one (scanning s n a es) d x e → Due d (scanned s (image d) n a es) upward x e
+pub scans : (n : ℕ) (s : Shape) (a : ℕ) (es : List Exception) {d e : Disk} {x : Told StoreRefusal Ending} → Runs one (scanning s n a es) d x e → Due d (scanned s (image d) n a es) upward x e
 unfolding scanning scanned
 scans zero s a es r = let q = run-over r in given (q .0) (q .1)
 scans (suc n) s a es r =
@@ -76,7 +76,7 @@ one-sector z = λ i. call tt (reads 512 0) (λ t. agree t i)
     agree (refused f) = refl
 
 -- the header: what its sector reads
-headed : (z : Sizes) {d e : Disk} {t : Told StoreRefusal ChunkSize} → Runs one (heading z) d t e → Due d (header-found z (image d 0)) upward t e
+pub headed : (z : Sizes) {d e : Disk} {t : Told StoreRefusal ChunkSize} → Runs one (heading z) d t e → Due d (header-found z (image d 0)) upward t e
 headed z {d} {e} {t} r =
     let h = halves (gathering 0 1 []) (told-header z) (subst (λ p. Runs one p d t e) (one-sector z) r) in
     by (gathers 1 0 [] (h .first)) (h .rest)

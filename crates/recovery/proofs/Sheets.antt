@@ -70,15 +70,21 @@ length-sheets m (suc n) s long =
     let later : (p : ℕ) → p < n → length (m ((s + 1) + p)) ≡ 512 = λ p l. ap (λ t. length (m t)) (let z : (s + 1) + p ≡ s + suc p = omega arith in z) ∙ long (suc p) (omega arith) in
     length-append (m s) (sheets m (s + 1) n) ∙ ap₂ (λ a b. a + b) here (length-sheets m n (s + 1) later) ∙ omega arith
 
--- an entry of an area is one of its sectors'
-pub entry-in-area : (s : Shape) (m : Image) (a k : ℕ) → ((q : ℕ) → q < width s → length (m (area-start (width s) a + q)) ≡ 512) → k < per-area (width s) → nth-entry (area-bytes s m a) k ≡ entry-from (m (area-start (width s) a + k / 32)) (16 * (k % 32))
-entry-in-area s m a k long inside =
-    let c = width s in
-    let first = area-start c a in
-    let bytes : area-bytes s m a ≡ sheets m first c = gathered-is m c first [] in
-    let size : length (area-bytes s m a) ≡ 512 * c = ap length bytes ∙ length-sheets m c first long in
-    let place : 16 * k ≡ 512 * (k / 32) + 16 * (k % 32) = omega arith in
-    cond-true (leb (16 * k + 16) (length (area-bytes s m a))) _ _ (le-leb _ _ (omega arith)) ∙ ap₂ entry-from bytes place ∙ entry-of-sector m c first (k / 32) (16 * (k % 32)) long (omega arith) (omega arith)
+module _ (s : Shape) (m : Image) (a : ℕ) (long : (q : ℕ) → q < width s → length (m (area-start (width s) a + q)) ≡ 512) where
+  pub length-area : length (area-bytes s m a) ≡ 512 * width s
+  length-area = ap length (gathered-is m (width s) (area-start (width s) a) []) ∙ length-sheets m (width s) (area-start (width s) a) long
+
+  -- an entry of an area's bytes is one of its sector's
+  pub entry-of-area : (q r : ℕ) → q < width s → r + 16 ≤ 512 → entry-from (area-bytes s m a) (512 * q + r) ≡ entry-from (m (area-start (width s) a + q)) r
+  entry-of-area q r l few =
+      ap (λ b. entry-from b (512 * q + r)) (gathered-is m (width s) (area-start (width s) a) []) ∙ entry-of-sector m (width s) (area-start (width s) a) q r long l few
+
+  -- the same by its number
+  pub entry-in-area : (k : ℕ) → k < per-area (width s) → nth-entry (area-bytes s m a) k ≡ entry-from (m (area-start (width s) a + k / 32)) (16 * (k % 32))
+  entry-in-area k inside =
+      let size = length-area in
+      let place : 16 * k ≡ 512 * (k / 32) + 16 * (k % 32) = omega arith in
+      cond-true (leb (16 * k + 16) (length (area-bytes s m a))) _ _ (le-leb _ _ (omega arith)) ∙ ap (entry-from (area-bytes s m a)) place ∙ entry-of-area (k / 32) (16 * (k % 32)) (omega arith) (omega arith)
 
 pub pictures-hold : Pictures-hold
 pictures-hold s m es fit p = record { entries = entries; end = end }
@@ -88,7 +94,7 @@ pictures-hold s m es fit p = record { entries = entries; end = end }
 
     in-picture : (a k : ℕ) → k < per-area (width s) → per-area (width s) * a ≤ length es → nth-entry (area-bytes s m a) k ≡ entry-from (pic es (width s * a + k / 32)) (16 * (k % 32))
     in-picture a k inside here =
-        entry-in-area s m a k (λ q l. ap length (p .sectors a q l here) ∙ length-pic es (width s * a + q)) inside ∙ ap (λ l. entry-from l (16 * (k % 32))) (p .sectors a (k / 32) (omega arith) here)
+        entry-in-area s m a (λ q l. ap length (p .sectors a q l here) ∙ length-pic es (width s * a + q)) k inside ∙ ap (λ l. entry-from l (16 * (k % 32))) (p .sectors a (k / 32) (omega arith) here)
 
     entries : (a k : ℕ) → k < per-area (width s) → per-area (width s) * a + k < length es → nth-entry (area-bytes s m a) k ≡ getD es (per-area (width s) * a + k) nothing
     entries a k inside l =

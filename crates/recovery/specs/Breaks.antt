@@ -13,8 +13,8 @@ use Rattle.layout.specs.declared.exception.Exception.{Exception}
 use Rattle.layout.specs.Chunks.{sectors, per-area}
 use Rattle.exceptions.specs.Table.{entries-at-most, has-old, room}
 use Rattle.store.specs.Image.{Sizes, well-shaped}
-use Rattle.store.specs.Refusals.{because}
-use Rattle.store.specs.Steps.{making, entering, dropping, spoiling}
+use Rattle.store.specs.Refusals.{StoreRefusal, because}
+use Rattle.store.specs.Steps.{Contents, opening, making, entering, dropping, spoiling}
 use Rattle.recovery.specs.Readings.{image, found}
 use Rattle.recovery.specs.Standing.{Listed, Stands, Finds}
 
@@ -65,3 +65,14 @@ Dropping-breaks =
     (z : Sizes) (size : ChunkSize) (es : List Exception) (k : ℕ) (d e after : Disk) (t : Told Refusal (Unit {0})) →
     Stands z size es d → k ≤ length es → Runs one (dropping (sectors size) (take k es) (length es)) d t e → Cut e after →
     (i : ℕ) × (k ≤ i) × (i ≤ length es) × Finds z size (take i es) (image after)
+
+-- one possibility a sector, of 512 bytes, as a power cut leaves them
+pub record Sure (d : Disk) : Type 0 where
+  pub single : (s : ℕ) → d .cells s .older ≡ []
+  pub long : (s : ℕ) → length (image d s) ≡ 512
+
+-- opening, wherever it breaks off: the same list is found again
+abbrev pub Opening-breaks : Type 0
+Opening-breaks =
+    (z : Sizes) (size : ChunkSize) (es : List Exception) (d e after : Disk) (t : Told StoreRefusal Contents) →
+    Sure d → Finds z size es (image d) → Runs one (opening z 8192) d t e → Cut e after → Finds z size es (image after)

@@ -1,0 +1,5 @@
+use Rattle.recovery.proofs.Cleans.{opening-breaks}
+use Rattle.recovery.proofs.opening_survives_cuts.Needs as need
+
+pub returns : need.returns
+returns c = opening-breaks
