@@ -6,6 +6,8 @@ mod scan;
 mod sectors;
 mod shape;
 mod store;
+#[cfg(test)]
+mod tests;
 
 pub use fault::FromDevice;
 pub use fault::FromHeader;
