@@ -15,3 +15,4 @@ pub mod Listing
 pub mod Again
 pub mod Tidies
 pub mod Cleans
+pub mod Calls

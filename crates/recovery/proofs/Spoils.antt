@@ -33,7 +33,7 @@ record Spoiled (z : Sizes) (size : ChunkSize) (es : List Exception) (at : ℕ) (
 invalid-header : (z : Sizes) (size : ChunkSize) → well-shaped z (sectors size) ≡ true → header-found z (header false (sectors size)) ≡ refused (because 6 0 0)
 invalid-header z size shape = ap (header-judged z) (header-back false size) ∙ cond-true (well-shaped z (sectors size)) _ _ shape
 
-invalid-opens : (z : Sizes) (size : ChunkSize) (m : Image) → well-shaped z (sectors size) ≡ true → m 0 ≡ header false (sectors size) → found z m ≡ refused (because 6 0 0)
+pub invalid-opens : (z : Sizes) (size : ChunkSize) (m : Image) → well-shaped z (sectors size) ≡ true → m 0 ≡ header false (sectors size) → found z m ≡ refused (because 6 0 0)
 invalid-opens z size m shape is =
     ap (λ t. next t (λ size. next (scanned (shape-of z size) m most-areas 0 []) (λ e. good (record { size = size; table = e .table })))) (ap (header-found z) is ∙ invalid-header z size shape)
 

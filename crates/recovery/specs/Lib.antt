@@ -2,3 +2,4 @@ pub mod Readings
 pub mod Holding
 pub mod Standing
 pub mod Breaks
+pub mod Calls

@@ -1,6 +1,7 @@
 // What a power cut leaves of a store, and what opening finds then. This crate is theory: its
 // functions have no code, and their contracts name the theorems.
 ghost use Rattle.recovery.specs.Breaks.{Dropping-breaks, Dropping-stands, Entering-breaks, Entering-listed, Entering-stands, Making-stands, Opening-breaks, Spoiling-breaks};
+ghost use Rattle.recovery.specs.Calls.{Drop-breaks, Drop-stands, Enter-breaks, Enter-stands, Spoil-breaks, Spoil-stays};
 ghost use Rattle.recovery.specs.Holding.{Finds-what-it-holds, Pictures-hold};
 ghost use Rattle.recovery.specs.Readings.{Opening-finds};
 ghost use Rattle.recovery.specs.Standing.{Standing-opens};
@@ -31,21 +32,29 @@ pub fn making_stands()
 
 // What the store enters makes a list that an opening takes. After a good entering that list
 // stands. Broken off anywhere, and after any power cut, the list is found with or without the new
-// exception.
+// exception. The same of the store's own call, which chooses the place.
 pub fn entering_survives_cuts()
     ensures listed { λ _. ⌜ Entering-listed ⌝ }
     ensures stands { λ _. ⌜ Entering-stands ⌝ }
     ensures breaks { λ _. ⌜ Entering-breaks ⌝ }
+    ensures call_stands { λ _. ⌜ Enter-stands ⌝ }
+    ensures call_breaks { λ _. ⌜ Enter-breaks ⌝ }
 {}
 
 // Spoiling broken off anywhere, and any power cut: the list is found, or the store is invalid.
+// After a good spoiling it is invalid.
 pub fn spoiling_survives_cuts()
-    ensures { λ _. ⌜ Spoiling-breaks ⌝ }
+    ensures breaks { λ _. ⌜ Spoiling-breaks ⌝ }
+    ensures call_stays { λ _. ⌜ Spoil-stays ⌝ }
+    ensures call_breaks { λ _. ⌜ Spoil-breaks ⌝ }
 {}
 
 // After a good dropping the beginning of the list stands. Broken off anywhere, and after any power
-// cut, any number of the dropped exceptions may have left, from the end.
+// cut, any number of the dropped exceptions may have left, from the end. The same of the store's
+// own call, which drops the last run.
 pub fn dropping_survives_cuts()
     ensures stands { λ _. ⌜ Dropping-stands ⌝ }
     ensures breaks { λ _. ⌜ Dropping-breaks ⌝ }
+    ensures call_stands { λ _. ⌜ Drop-stands ⌝ }
+    ensures call_breaks { λ _. ⌜ Drop-breaks ⌝ }
 {}
