@@ -9,7 +9,6 @@ use lib.Dec.{ltb}
 use lib.ListN.{length, take}
 use Rattle.std.specs.declared.option.Option.{Option}
 use Rattle.std.specs.declared.option.Option.the-variants.{Some, None}
-use Rattle.std.proofs.shelf.Lists.{take-all}
 use Rattle.std.proofs.shelf.Tests.{cases-bool, or-parts, not-false, ltb-true, cond-true, cond-false}
 use Rattle.device.specs.Disk.{Disk, Told, good, refused, Refusal, Cut, put}
 use Rattle.device.specs.Plans.{Plan, done, Runs, one, onward, raised, lifted}
@@ -21,15 +20,16 @@ use Rattle.layout.specs.Headers.{header}
 use Rattle.exceptions.specs.Table.{entries-at-most, has-old, last-run, room, without-run}
 use Rattle.store.specs.Image.{Sizes}
 use Rattle.store.specs.Refusals.{StoreRefusal, because, up, doing}
-use Rattle.store.specs.Steps.{shape-of, spoiling, entering, dropping, enter, entered-at, drop-run}
+use Rattle.store.specs.Steps.{shape-of, making, spoiling, entering, dropping, enter, entered-at, drop-run}
 use Rattle.recovery.specs.Readings.{image, found}
 use Rattle.recovery.specs.Standing.{Standing, Listed, Stands, Finds}
-use Rattle.recovery.specs.Breaks.{more}
-use Rattle.recovery.specs.Calls.{Enter-stands, Enter-breaks, Drop-stands, Drop-breaks, Spoil-stays, Spoil-breaks}
+use Rattle.recovery.specs.Breaks.{more, Left-by-making}
+use Rattle.recovery.specs.Calls.{Make-stands, Make-breaks, Enter-stands, Enter-breaks, Drop-stands, Drop-breaks, Spoil-stays, Spoil-breaks}
 use Rattle.recovery.proofs.Allowed.{cut-within}
 use Rattle.recovery.proofs.Drops.{dropping-breaks, dropping-stands}
 use Rattle.recovery.proofs.Enters.{entering-breaks, entering-stands}
 use Rattle.recovery.proofs.Listing.{entering-listed}
+use Rattle.recovery.proofs.Makes.{making-breaks, making-stands}
 use Rattle.recovery.proofs.Spoils.{invalid-opens, spoiling-breaks}
 use Rattle.recovery.proofs.Stand.{standing-opens}
 use Rattle.recovery.proofs.Zeros.{put-here, settled-single, stored-good}
@@ -149,3 +149,19 @@ spoil-breaks z size es d e after t stands r cut = by (lifts (spoiling (sectors s
     by : Did {A = Unit {0}} (spoiling (sectors size)) tt t d e → Finds z size es (image after) ⊎ (found z (image after) ≡ refused (because 6 0 0))
     by (went run answer) = spoiling-breaks z size es d e after (good tt) stands run cut
     by (broke f run answer) = spoiling-breaks z size es d e after (refused f) stands run cut
+
+-- MAKING
+
+pub make-stands : Make-stands
+make-stands z size d e shape r = by (lifts (making (sectors size)) (good tt) d e r)
+  where
+    by : Did {A = Unit {0}} (making (sectors size)) tt (good tt) d e → Stands z size [] e
+    by (went run answer) = making-stands z size d e shape run
+    by (broke f run answer) = never-good answer
+
+pub make-breaks : Make-breaks
+make-breaks z size d e after t shape r cut = by (lifts (making (sectors size)) t d e r)
+  where
+    by : Did {A = Unit {0}} (making (sectors size)) tt t d e → Left-by-making z size d after
+    by (went run answer) = making-breaks z size d e after (good tt) shape run cut
+    by (broke f run answer) = making-breaks z size d e after (refused f) shape run cut

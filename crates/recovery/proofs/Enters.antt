@@ -37,7 +37,7 @@ on-good A p ok (good b) = ok b
 on-good A p ok (refused r) = tt
 
 -- zeros over n sectors
-zeroing-writes : (A : ℕ → Bytes → Type 0) (n s : ℕ) → ((i : ℕ) → i < n → A (s + i) (replicate 512 0)) → Writes A (zeroing s n)
+pub zeroing-writes : (A : ℕ → Bytes → Type 0) (n s : ℕ) → ((i : ℕ) → i < n → A (s + i) (replicate 512 0)) → Writes A (zeroing s n)
 zeroing-writes A zero s ok = tt
 zeroing-writes A (suc n) s ok =
     let here = subst (λ t. A t (replicate 512 0)) (let z : s + 0 ≡ s = omega arith in z) (ok 0 (omega arith)) in

@@ -5,8 +5,9 @@ use mathlib.Core.Logic.{_⊎_}
 use mathlib.Core.List.{List, [], _∷_, _++_}
 use Prim.Native.Nat.{ℕ, _/_, _^_, _<_, _≤_}
 use lib.ListN.{length, take}
+use Rattle.std.specs.shelf.Lists.{Has}
 use Rattle.std.specs.declared.option.Option.the-variants.{Some}
-use Rattle.device.specs.Disk.{Disk, Told, good, refused, Refusal, Cut}
+use Rattle.device.specs.Disk.{Disk, possibilities, Told, good, refused, Refusal, Cut}
 use Rattle.device.specs.Plans.{Runs, one}
 use Rattle.layout.specs.declared.chunk.ChunkSize.{ChunkSize}
 use Rattle.layout.specs.declared.exception.Exception.{Exception}
@@ -45,6 +46,18 @@ Entering-stands =
 -- making, when it is good: an empty list stands
 abbrev pub Making-stands : Type 0
 Making-stands = (z : Sizes) (size : ChunkSize) (d e : Disk) → well-shaped z (sectors size) ≡ true → Runs one (making (sectors size)) d (good tt) e → Stands z size [] e
+
+-- what may be left of a making that began on d: all is as it was, or there is no store, or an empty list
+abbrev pub Left-by-making : Sizes → ChunkSize → Disk → Disk → Type 0
+Left-by-making z size d after =
+    ((s : ℕ) → Has (possibilities (d .cells s)) (image after s)) ⊎ ((found z (image after) ≡ refused (because 10 0 0)) ⊎ Finds z size [] (image after))
+
+-- making, wherever it breaks off
+abbrev pub Making-breaks : Type 0
+Making-breaks =
+    (z : Sizes) (size : ChunkSize) (d e after : Disk) (t : Told Refusal (Unit {0})) → well-shaped z (sectors size) ≡ true →
+    Runs one (making (sectors size)) d t e → Cut e after →
+    Left-by-making z size d after
 
 -- spoiling, wherever it breaks off: the list is found, or the store is invalid
 abbrev pub Spoiling-breaks : Type 0

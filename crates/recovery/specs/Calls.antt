@@ -14,10 +14,21 @@ use Rattle.layout.specs.Chunks.{sectors}
 use Rattle.exceptions.specs.Table.{entries-at-most, last-run, room}
 use Rattle.store.specs.Image.{Sizes, well-shaped}
 use Rattle.store.specs.Refusals.{StoreRefusal, because, up}
-use Rattle.store.specs.Steps.{shape-of, spoiling, enter, drop-run}
+use Rattle.store.specs.Steps.{shape-of, making, spoiling, enter, drop-run}
 use Rattle.recovery.specs.Readings.{image, found}
 use Rattle.recovery.specs.Standing.{Stands, Finds}
-use Rattle.recovery.specs.Breaks.{more}
+use Rattle.recovery.specs.Breaks.{more, Left-by-making}
+
+-- making a store, when it is good: an empty list stands
+abbrev pub Make-stands : Type 0
+Make-stands = (z : Sizes) (size : ChunkSize) (d e : Disk) → well-shaped z (sectors size) ≡ true → Runs one (lifted up (making (sectors size))) d (good tt) e → Stands z size [] e
+
+-- making a store, wherever it breaks off
+abbrev pub Make-breaks : Type 0
+Make-breaks =
+    (z : Sizes) (size : ChunkSize) (d e after : Disk) (t : Told StoreRefusal (Unit {0})) → well-shaped z (sectors size) ≡ true →
+    Runs one (lifted up (making (sectors size))) d t e → Cut e after →
+    Left-by-making z size d after
 
 -- entering an old chunk, when it is good: the list that is remembered stands
 abbrev pub Enter-stands : Type 0

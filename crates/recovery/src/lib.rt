@@ -1,7 +1,7 @@
 // What a power cut leaves of a store, and what opening finds then. This crate is theory: its
 // functions have no code, and their contracts name the theorems.
-ghost use Rattle.recovery.specs.Breaks.{Dropping-breaks, Dropping-stands, Entering-breaks, Entering-listed, Entering-stands, Making-stands, Opening-breaks, Spoiling-breaks};
-ghost use Rattle.recovery.specs.Calls.{Drop-breaks, Drop-stands, Enter-breaks, Enter-stands, Spoil-breaks, Spoil-stays};
+ghost use Rattle.recovery.specs.Breaks.{Dropping-breaks, Dropping-stands, Entering-breaks, Entering-listed, Entering-stands, Making-breaks, Making-stands, Opening-breaks, Spoiling-breaks};
+ghost use Rattle.recovery.specs.Calls.{Drop-breaks, Drop-stands, Enter-breaks, Enter-stands, Make-breaks, Make-stands, Spoil-breaks, Spoil-stays};
 ghost use Rattle.recovery.specs.Holding.{Finds-what-it-holds, Pictures-hold};
 ghost use Rattle.recovery.specs.Readings.{Opening-finds};
 ghost use Rattle.recovery.specs.Standing.{Standing-opens};
@@ -25,9 +25,13 @@ pub fn what_stands_is_found()
     ensures standing { λ _. ⌜ Standing-opens ⌝ }
 {}
 
-// After a good making an empty list stands.
-pub fn making_stands()
-    ensures { λ _. ⌜ Making-stands ⌝ }
+// After a good making an empty list stands. Broken off anywhere, and after any power cut, all is as
+// it was, or there is no store, or an empty list.
+pub fn making_survives_cuts()
+    ensures stands { λ _. ⌜ Making-stands ⌝ }
+    ensures breaks { λ _. ⌜ Making-breaks ⌝ }
+    ensures call_stands { λ _. ⌜ Make-stands ⌝ }
+    ensures call_breaks { λ _. ⌜ Make-breaks ⌝ }
 {}
 
 // What the store enters makes a list that an opening takes. After a good entering that list
