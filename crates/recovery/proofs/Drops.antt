@@ -19,13 +19,12 @@ use Rattle.layout.specs.declared.chunk.ChunkSize.{ChunkSize}
 use Rattle.layout.specs.declared.exception.Exception.{Exception}
 use Rattle.layout.specs.Chunks.{sectors, per-area, area-start, area-place}
 use Rattle.layout.specs.Entries.{nothing, entry-from, nth-entry, pic, Fits}
-use Rattle.layout.specs.Headers.{header}
 use Rattle.layout.proofs.Back.{read-back}
 use Rattle.store.specs.Image.{Sizes}
 use Rattle.store.specs.Steps.{shape-of, finished, flushing, unwinding, dropping}
 use Rattle.recovery.specs.Readings.{Image, image, area-bytes}
 use Rattle.recovery.specs.Holding.{Holds}
-use Rattle.recovery.specs.Standing.{Within, Standing, Listed, Stands, Finds}
+use Rattle.recovery.specs.Standing.{Within, Valid-header, Standing, Listed, Stands, Finds}
 use Rattle.recovery.specs.Breaks.{Dropping-breaks, Dropping-stands}
 use Rattle.recovery.proofs.Allowed.{Writes, run-within, then-writes, cut-within}
 use Rattle.recovery.proofs.Enters.{on-good}
@@ -40,7 +39,7 @@ use Rattle.recovery.proofs.Zeros.{settled-single, put-here, put-elsewhere, flu
 module _ (z : Sizes) (size : ChunkSize) (es : List Exception) (k : ℕ) where
   -- with the drop under way, a sector shows the whole list or its beginning
   record Mixed (at : ℕ) (b : Bytes) : Type 0 where
-    head : at ≡ 0 → b ≡ header true (sectors size)
+    head : at ≡ 0 → Valid-header size b
     areas : (a q : ℕ) → q < sectors size → per-area (sectors size) * a ≤ length es → at ≡ area-start (sectors size) a + q → (b ≡ pic es (sectors size * a + q)) ⊎ (b ≡ pic (take k es) (sectors size * a + q))
 
   some : 0 < sectors size
@@ -230,7 +229,7 @@ dropping-stands z size es k d e stands less r =
     let standing : (t : ℕ) → Standing (shape-of z size) kept t (image mid t) = λ t.
     let was = stands .sectors t (image d t) (last-has (d .cells t)) in
     record {
-      head = λ at. unwound-elsewhere c kept some _ low (a .2) t (λ h l u there. not-header c (h / c) (h % c) (mod-lt h some) (sym there ∙ at)) ∙ was .head at;
+      head = λ at. subst (Valid-header size) (sym (unwound-elsewhere c kept some _ low (a .2) t (λ h l u there. not-header c (h / c) (h % c) (mod-lt h some) (sym there ∙ at)))) (was .head at);
       areas = λ b q l le at.
           let j = c * b + q in
           let place : t ≡ area-place c j = at ∙ placed-at c b q j l refl in

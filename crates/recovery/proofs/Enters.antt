@@ -17,12 +17,11 @@ use Rattle.layout.specs.declared.chunk.ChunkSize.{ChunkSize}
 use Rattle.layout.specs.declared.exception.Exception.{Exception}
 use Rattle.layout.specs.Chunks.{sectors, per-area, area-start, area-place}
 use Rattle.layout.specs.Entries.{pic}
-use Rattle.layout.specs.Headers.{header}
 use Rattle.exceptions.specs.Table.{fills-area}
 use Rattle.store.specs.Image.{Sizes}
 use Rattle.store.specs.Steps.{shape-of, finished, flushing, storing, preparing, entering}
 use Rattle.recovery.specs.Readings.{Image, image}
-use Rattle.recovery.specs.Standing.{Within, Standing, Listed, Stands, Finds}
+use Rattle.recovery.specs.Standing.{Within, Valid-header, Standing, Listed, Stands, Finds}
 use Rattle.recovery.specs.Breaks.{more, Entering-breaks, Entering-stands}
 use Rattle.recovery.proofs.Allowed.{Writes, run-within, by-way, cut-within}
 use Rattle.recovery.proofs.Finds.{sectors-within}
@@ -51,7 +50,7 @@ storing-writes A s bytes ok = (ok, on-good A (λ _. flushing finished) (λ _. (t
 module _ (z : Sizes) (size : ChunkSize) (es : List Exception) (x : Exception) where
   -- with the entry under way, a sector is as it was or as it will be
   record Between (at : ℕ) (b : Bytes) : Type 0 where
-    head : at ≡ 0 → b ≡ header true (sectors size)
+    head : at ≡ 0 → Valid-header size b
     areas : (a q : ℕ) → q < sectors size → per-area (sectors size) * a ≤ length (more es x) → at ≡ area-start (sectors size) a + q → (b ≡ pic es (sectors size * a + q)) ⊎ (b ≡ pic (more es x) (sectors size * a + q))
 
   some : 0 < sectors size
@@ -106,7 +105,7 @@ module _ (z : Sizes) (size : ChunkSize) (es : List Exception) (x : Exception) wh
       let is : image mid s ≡ b = only has in
       let here = stand s (image mid s) (last-has (mid .cells s)) in
       record {
-        head = λ e. sym is ∙ here .head e;
+        head = λ e. subst (Valid-header size) is (here .head e);
         areas = λ a q l le at.
             ⊎-elim
             (λ inside. inl (sym is ∙ here .areas a q l (omega arith) at))

@@ -17,7 +17,8 @@ use Rattle.device.proofs.Uses.{Went, went-on, left-in, was-refused, went, over 
 use Rattle.layout.specs.declared.chunk.ChunkSize.{ChunkSize}
 use Rattle.layout.specs.Chunks.{sectors, per-area, area-start}
 use Rattle.layout.specs.Entries.{pic}
-use Rattle.layout.specs.Headers.{header}
+use Rattle.layout.specs.Headers.{header, header-read}
+use Rattle.layout.proofs.Back.{header-back}
 use Rattle.store.specs.Image.{Sizes, well-shaped, header-found}
 use Rattle.store.specs.Refusals.{because}
 use Rattle.store.specs.Scanning.{most-areas}
@@ -54,7 +55,7 @@ making-stands z size d e shape r =
     let s = stored-good (flushed-good (b .3)) in
     let last = put (settled mid) 0 (header true c) (s .0) in
     let standing : (t : ℕ) → Standing (shape-of z size) [] t (image last t) = λ t. record {
-      head = λ is. ap (image last) is ∙ put-here (settled mid) 0 (header true c) (s .0);
+      head = λ is. ap header-read (ap (image last) is ∙ put-here (settled mid) 0 (header true c) (s .0)) ∙ header-back true size;
       areas = λ k q l le at.
           let none = first-area c k (sectors-within size .0) le in
           let there : t ≡ area-start c 0 + q = at ∙ ap (λ i. area-start c i + q) none in
@@ -125,7 +126,7 @@ module _ (z : Sizes) (size : ChunkSize) (shape : well-shaped z (sectors size) �
       ⊎-elim
       no-store
       (λ new. inr (inr (standing-opens z size [] (image after) (listed-none z size shape) (λ t. record {
-        head = λ is. ap (image after) is ∙ new;
+        head = λ is. ap header-read (ap (image after) is ∙ new) ∙ header-back true size;
         areas = λ k q l le at. all t .area q l (at ∙ ap (λ i. area-start c i + q) (first-area c k (sectors-within size .0) le)) ∙ sym (pic-past [] (c * k + q) (omega arith));
       }))))
       (all 0 .head refl)

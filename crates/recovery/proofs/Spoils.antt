@@ -1,5 +1,5 @@
 -- Spoiling a store, wherever it breaks off.
-use mathlib.Core.Path.{_≡_, refl, sym, ap, _∙_}
+use mathlib.Core.Path.{_≡_, refl, sym, ap, subst, _∙_}
 use mathlib.Core.Bool.{true, false, cond}
 use mathlib.Core.Logic.{_⊎_, inl, inr, ⊎-elim}
 use mathlib.Core.List.{List, []}
@@ -18,7 +18,7 @@ use Rattle.store.specs.Refusals.{because}
 use Rattle.store.specs.Scanning.{most-areas}
 use Rattle.store.specs.Steps.{shape-of}
 use Rattle.recovery.specs.Readings.{Image, image, scanned, next, found}
-use Rattle.recovery.specs.Standing.{Within, Standing, Stands}
+use Rattle.recovery.specs.Standing.{Within, Valid-header, Standing, Stands}
 use Rattle.recovery.specs.Breaks.{Spoiling-breaks}
 use Rattle.recovery.proofs.Allowed.{run-within, cut-within}
 use Rattle.recovery.proofs.Enters.{storing-writes}
@@ -27,7 +27,7 @@ use Rattle.recovery.proofs.Stand.{standing-opens}
 
 -- under way, the header is valid or not, and the areas stay
 record Spoiled (z : Sizes) (size : ChunkSize) (es : List Exception) (at : ℕ) (b : Bytes) : Type 0 where
-  head : at ≡ 0 → (b ≡ header true (sectors size)) ⊎ (b ≡ header false (sectors size))
+  head : at ≡ 0 → Valid-header size b ⊎ (b ≡ header false (sectors size))
   areas : (a q : ℕ) → q < sectors size → per-area (sectors size) * a ≤ length es → at ≡ area-start (sectors size) a + q → b ≡ pic es (sectors size * a + q)
 
 invalid-header : (z : Sizes) (size : ChunkSize) → well-shaped z (sectors size) ≡ true → header-found z (header false (sectors size)) ≡ refused (because 6 0 0)
@@ -43,6 +43,6 @@ spoiling-breaks z size es d e after t stands r cut =
     let before : Within (Spoiled z size es) d = λ s b has. let here = stands .sectors s b has in record { head = λ is. inl (here .head is); areas = here .areas } in
     let all = cut-within (Spoiled z size es) (run-within (Spoiled z size es) (storing-writes (Spoiled z size es) 0 (header false (sectors size)) writes) r before) cut in
     ⊎-elim
-    (λ valid. inl (standing-opens z size es (image after) (stands .listed) (λ s. record { head = λ is. ap (image after) is ∙ valid; areas = all s .areas })))
+    (λ valid. inl (standing-opens z size es (image after) (stands .listed) (λ s. record { head = λ is. subst (λ t. Valid-header size (image after t)) (sym is) valid; areas = all s .areas })))
     (λ invalid. inr (invalid-opens z size (image after) (stands .listed .shape) invalid))
     (all 0 .head refl)

@@ -8,26 +8,21 @@ use Rattle.device.specs.Disk.{Told, good}
 use Rattle.layout.specs.declared.chunk.ChunkSize.{ChunkSize}
 use Rattle.layout.specs.declared.exception.Exception.{Exception}
 use Rattle.layout.specs.Chunks.{sectors}
-use Rattle.layout.specs.Headers.{header, header-read}
-use Rattle.layout.proofs.Back.{header-back}
 use Rattle.store.specs.Image.{Sizes, well-shaped, header-judged, header-found}
 use Rattle.store.specs.Refusals.{StoreRefusal}
 use Rattle.store.specs.Scanning.{Ending, most-areas}
 use Rattle.store.specs.Steps.{shape-of}
 use Rattle.recovery.specs.Readings.{Image, area-bytes, scanned, next, found}
 use Rattle.recovery.specs.Holding.{Found-again, Pictured}
-use Rattle.recovery.specs.Standing.{Standing, Listed, Finds, Standing-opens}
+use Rattle.recovery.specs.Standing.{Valid-header, Standing, Listed, Finds, Standing-opens}
 use Rattle.recovery.proofs.Finds.{finds-what-it-holds}
 use Rattle.recovery.proofs.Sheets.{pictures-hold}
 
-valid-header : (z : Sizes) (size : ChunkSize) → well-shaped z (sectors size) ≡ true → header-found z (header true (sectors size)) ≡ good size
-valid-header z size shape = ap (header-judged z) (header-back true size) ∙ cond-true (well-shaped z (sectors size)) _ _ shape
-
 -- a list that the areas hold is found under a valid header
-pub held-opens : (z : Sizes) (size : ChunkSize) (es : List Exception) (m : Image) → well-shaped z (sectors size) ≡ true → m 0 ≡ header true (sectors size) → Found-again (shape-of z size) m es → Finds z size es m
+pub held-opens : (z : Sizes) (size : ChunkSize) (es : List Exception) (m : Image) → well-shaped z (sectors size) ≡ true → Valid-header size (m 0) → Found-again (shape-of z size) m es → Finds z size es m
 held-opens z size es m shape head again =
     let s = shape-of z size in
-    let headed : header-found z (m 0) ≡ good size = ap (header-found z) head ∙ valid-header z size shape in
+    let headed : header-found z (m 0) ≡ good size = ap (header-judged z) head ∙ cond-true (well-shaped z (sectors size)) _ _ shape in
     ap (λ t. next t (λ size. next (scanned (shape-of z size) m most-areas 0 []) (λ e. good (record { size = size; table = e .table })))) headed
     ∙ ap (λ t. next t (λ e. good (record { size = size; table = e .table }))) (again .answer)
 

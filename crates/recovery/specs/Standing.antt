@@ -11,7 +11,7 @@ use Rattle.layout.specs.declared.chunk.ChunkSize.{ChunkSize}
 use Rattle.layout.specs.declared.exception.Exception.{Exception}
 use Rattle.layout.specs.Chunks.{sectors, per-area, area-start}
 use Rattle.layout.specs.Entries.{pic, Fits}
-use Rattle.layout.specs.Headers.{header}
+use Rattle.layout.specs.Headers.{header-read}
 use Rattle.store.specs.declared.shape.Shape.{Shape}
 use Rattle.store.specs.Image.{Sizes, well-shaped}
 use Rattle.store.specs.Judge.{width}
@@ -23,9 +23,13 @@ use Rattle.recovery.specs.Holding.{Sound}
 abbrev pub Within : (ℕ → Bytes → Type 0) → Disk → Type 0
 Within A d = (s : ℕ) (b : Bytes) → Has (possibilities (d .cells s)) b → A s b
 
--- what a sector of a store with a list may be: the valid header, and the pictures in the areas up to the one where the list ends
+-- a first sector that reads as a valid header
+abbrev pub Valid-header : ChunkSize → Bytes → Type 0
+Valid-header size b = header-read b ≡ good (record { valid = true; size = size })
+
+-- what a sector of a store with a list may be: a valid header, and the pictures in the areas up to the one where the list ends
 pub record Standing (s : Shape) (es : List Exception) (at : ℕ) (b : Bytes) : Type 0 where
-  pub head : at ≡ 0 → b ≡ header true (width s)
+  pub head : at ≡ 0 → Valid-header (s .size) b
   pub areas : (a q : ℕ) → q < width s → per-area (width s) * a ≤ length es → at ≡ area-start (width s) a + q → b ≡ pic es (width s * a + q)
 
 -- a list that an opening takes, on devices of these sizes
