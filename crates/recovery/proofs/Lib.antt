@@ -16,3 +16,4 @@ pub mod Again
 pub mod Tidies
 pub mod Cleans
 pub mod Calls
+pub mod Learns
