@@ -35,21 +35,21 @@ use Rattle.recovery.proofs.Stand.{standing-opens}
 use Rattle.recovery.proofs.Zeros.{put-here, settled-single, stored-good}
 
 -- steps on the device, and then an answer: they were good and so is it, or the device refused
-data Did {A : Type 0} (p : Plan (Unit {0}) (Told Refusal (Unit {0}))) (a : A) (t : Told StoreRefusal A) (d e : Disk) : Type 0 where
+pub data Did {A : Type 0} (p : Plan (Unit {0}) (Told Refusal (Unit {0}))) (a : A) (t : Told StoreRefusal A) (d e : Disk) : Type 0 where
   went : Runs one p d (good tt) e → t ≡ good a → Did p a t d e
   broke : (f : Refusal) → Runs one p d (refused f) e → t ≡ refused (up f) → Did p a t d e
 
-did : {A : Type 0} (p : Plan (Unit {0}) (Told Refusal (Unit {0}))) (a : A) (t : Told StoreRefusal A) (d e : Disk) → Runs one (doing p (λ _. done (good a))) d t e → Did p a t d e
+pub did : {A : Type 0} (p : Plan (Unit {0}) (Told Refusal (Unit {0}))) (a : A) (t : Told StoreRefusal A) (d e : Disk) → Runs one (doing p (λ _. done (good a))) d t e → Did p a t d e
 did {A} p a t d e r = let h = halves p (λ u. onward (raised up u) (λ _. done (good a))) r in by (h .mid) (h .between) (h .first) (h .rest)
   where
     by : (u : Told Refusal (Unit {0})) (mid : Disk) → Runs one p d u mid → Runs one (onward (raised up u) (λ _. done (good a))) mid t e → Did p a t d e
     by (good tt) mid first q = let o = run-over q in went (subst (λ y. Runs one p d (good tt) y) (sym (o .1)) first) (o .0)
     by (refused f) mid first q = let o = run-over q in broke f (subst (λ y. Runs one p d (refused f) y) (sym (o .1)) first) (o .0)
 
-never-good : {A X : Type 0} {f : StoreRefusal} {a : A} → good a ≡ refused f → X
+pub never-good : {A X : Type 0} {f : StoreRefusal} {a : A} → good a ≡ refused f → X
 never-good h = absurd (let z : _≡_ {A = ℕ} 0 1 = cc in omega arith)
 
-same-answer : {A : Type 0} {a b : A} → _≡_ {A = Told StoreRefusal A} (good a) (good b) → a ≡ b
+pub same-answer : {A : Type 0} {a b : A} → _≡_ {A = Told StoreRefusal A} (good a) (good b) → a ≡ b
 same-answer h = cc
 
 -- ENTERING

@@ -17,3 +17,6 @@ pub mod Tidies
 pub mod Cleans
 pub mod Calls
 pub mod Learns
+pub mod Sectors
+pub mod Settles
+pub mod Stays

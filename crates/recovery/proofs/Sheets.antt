@@ -6,7 +6,7 @@ use native.Mathlib.Nat.{mul-assoc}
 use native.Mathlib.Omega.{arith}
 use lib.Dec.{leb}
 use lib.ListN.{length, getD, take, drop, length-take, length-drop, length-append, length-replicate}
-use lib.Seq.{drop-append-add, drop-append-le, take-append-le}
+use lib.Seq.{drop-append-add, drop-append-le, take-append-le, take-all}
 use Rattle.std.specs.shelf.Lists.{between, All, joined}
 use Rattle.std.proofs.shelf.Tests.{cond-true, le-leb}
 use Rattle.device.specs.Disk.{Bytes}
@@ -73,6 +73,16 @@ length-sheets m (suc n) s long =
 module _ (s : Shape) (m : Image) (a : ℕ) (long : (q : ℕ) → q < width s → length (m (area-start (width s) a + q)) ≡ 512) where
   pub length-area : length (area-bytes s m a) ≡ 512 * width s
   length-area = ap length (gathered-is m (width s) (area-start (width s) a) []) ∙ length-sheets m (width s) (area-start (width s) a) long
+
+  -- a sector of an area's bytes
+  pub sector-of-area : (q : ℕ) → q < width s → take 512 (drop (512 * q) (area-bytes s m a)) ≡ m (area-start (width s) a + q)
+  sector-of-area q l =
+      let span : 512 ≡ 512 * q + 512 - (512 * q + 0) = omega arith in
+      let from : 512 * q ≡ 512 * q + 0 = omega arith in
+      ap (λ b. take 512 (drop (512 * q) b)) (gathered-is m (width s) (area-start (width s) a) [])
+      ∙ ap₂ (λ n k. take n (drop k (sheets m (area-start (width s) a) (width s)))) span from
+      ∙ part-of m (width s) (area-start (width s) a) q 0 512 long l (omega arith) (omega arith)
+      ∙ take-all 512 (m (area-start (width s) a + q)) (omega (arith, long q l))
 
   -- an entry of an area's bytes is one of its sector's
   pub entry-of-area : (q r : ℕ) → q < width s → r + 16 ≤ 512 → entry-from (area-bytes s m a) (512 * q + r) ≡ entry-from (m (area-start (width s) a + q)) r

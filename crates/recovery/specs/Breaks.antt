@@ -5,7 +5,7 @@ use mathlib.Core.Logic.{_⊎_}
 use mathlib.Core.List.{List, [], _∷_, _++_}
 use Prim.Native.Nat.{ℕ, _/_, _^_, _<_, _≤_}
 use lib.ListN.{length, take}
-use Rattle.std.specs.shelf.Lists.{Has}
+use Rattle.std.specs.shelf.Lists.{All, Has}
 use Rattle.std.specs.declared.option.Option.the-variants.{Some}
 use Rattle.device.specs.Disk.{Disk, possibilities, Told, good, refused, Refusal, Cut}
 use Rattle.device.specs.Plans.{Runs, one}
@@ -89,3 +89,9 @@ abbrev pub Opening-breaks : Type 0
 Opening-breaks =
     (z : Sizes) (size : ChunkSize) (es : List Exception) (d e after : Disk) (t : Told StoreRefusal Contents) →
     Sure d → Finds z size es (image d) → Runs one (opening z 8192) d t e → Cut e after → Finds z size es (image after)
+
+-- opening, when it is good: the list stands
+abbrev pub Opening-stands : Type 0
+Opening-stands =
+    (z : Sizes) (size : ChunkSize) (es : List Exception) (d e : Disk) → z .origin < 2 ^ 32 → z .cow < 2 ^ 32 →
+    Sure d → ((s : ℕ) → All (λ b. b < 256) (image d s)) → Runs one (opening z 8192) d (good (record { size = size; table = es })) e → Stands z size es e

@@ -1,6 +1,6 @@
 // What a power cut leaves of a store, and what opening finds then. This crate is theory: its
 // functions have no code, and their contracts name the theorems.
-ghost use Rattle.recovery.specs.Breaks.{Dropping-breaks, Dropping-stands, Entering-breaks, Entering-listed, Entering-stands, Making-breaks, Making-stands, Opening-breaks, Spoiling-breaks};
+ghost use Rattle.recovery.specs.Breaks.{Dropping-breaks, Dropping-stands, Entering-breaks, Entering-listed, Entering-stands, Making-breaks, Making-stands, Opening-breaks, Opening-stands, Spoiling-breaks};
 ghost use Rattle.recovery.specs.Calls.{Drop-breaks, Drop-stands, Enter-breaks, Enter-stands, Make-breaks, Make-stands, Spoil-breaks, Spoil-stays};
 ghost use Rattle.recovery.specs.Holding.{Finds-what-it-holds, Pictures-hold};
 ghost use Rattle.recovery.specs.Readings.{Opening-finds};
@@ -11,10 +11,11 @@ pub fn opening_finds_what_is_there()
     ensures { λ _. ⌜ Opening-finds ⌝ }
 {}
 
-// Broken off anywhere, in its cleaning too, and after any power cut, opening finds the same list
-// again.
+// After a good opening the list stands. Broken off anywhere, in its cleaning too, and after any
+// power cut, opening finds the same list again.
 pub fn opening_survives_cuts()
-    ensures { λ _. ⌜ Opening-breaks ⌝ }
+    ensures stands { λ _. ⌜ Opening-stands ⌝ }
+    ensures breaks { λ _. ⌜ Opening-breaks ⌝ }
 {}
 
 // A list that the sectors hold is found; the pictures of a list hold it; and what stands on a
