@@ -1,10 +1,13 @@
 -- Opening, wherever it breaks off: the same list is found again.
 use mathlib.Core.Path.{_≡_, refl, sym, ap, subst, subst₂, _∙_}
+use mathlib.Core.Bool.{true, cond}
+use mathlib.Core.Logic.{⊎-elim}
 use mathlib.Core.List.{List, [], _∷_, _++_}
-use Prim.Native.Nat.{ℕ, _+_, _<_}
+use Prim.Native.Nat.{ℕ, _+_, _*_, _<_, _≤_}
 use native.Mathlib.Omega.{arith}
 use lib.ListN.{length}
 use Rattle.std.specs.shelf.Lists.{Has}
+use Rattle.std.proofs.shelf.Tests.{cases-bool, cond-true, cond-false}
 use Rattle.device.specs.Disk.{Bytes, Disk, possibilities, Told, good, refused, Refusal, Cut}
 use Rattle.device.specs.Plans.{Plan, done, Runs, bind, onward, raised, one}
 use Rattle.device.proofs.Sectors.{only}
@@ -12,19 +15,22 @@ use Rattle.device.proofs.Steps.{bind-bind}
 use Rattle.device.proofs.Uses.{over as run-over, halves}
 use Rattle.layout.specs.declared.chunk.ChunkSize.{ChunkSize}
 use Rattle.layout.specs.declared.exception.Exception.{Exception}
-use Rattle.layout.specs.Chunks.{sectors, area-start}
+use Rattle.layout.specs.declared.header.Header.{Header}
+use Rattle.layout.specs.Chunks.{sectors, per-area, area-start}
+use Rattle.layout.specs.Headers.{header-read}
 use Rattle.store.specs.declared.shape.Shape.{Shape}
-use Rattle.store.specs.Image.{Sizes, header-found}
+use Rattle.store.specs.Image.{Sizes, well-shaped, header-judged, header-found}
 use Rattle.store.specs.Judge.{width}
 use Rattle.store.specs.Refusals.{StoreRefusal, up}
 use Rattle.store.specs.Scanning.{Ending, most-areas, scanning}
 use Rattle.store.specs.Steps.{Contents, shape-of, cleaning, loading, heading, opening}
 use Rattle.recovery.specs.Readings.{Image, image, scanned, next, found}
-use Rattle.recovery.specs.Standing.{Within, Finds}
+use Rattle.recovery.specs.Standing.{Within, Valid-header, Finds}
 use Rattle.recovery.specs.Breaks.{Sure, Opening-breaks}
-use Rattle.recovery.proofs.Again.{end-of, scanned-again}
+use Rattle.recovery.proofs.Again.{End, end-of, scanned-again}
 use Rattle.recovery.proofs.Allowed.{Writes, run-within, cut-within}
-use Rattle.recovery.proofs.Calls.{Did, went, broke, did}
+use Rattle.recovery.proofs.Calls.{Did, went, broke, did, never-good as never}
+use Rattle.recovery.proofs.Learns.{Learnt, learnt-none, scanned-fine, area-sector-on}
 use Rattle.recovery.proofs.Opens.{Due, given, stopped, upward, headed, scans}
 use Rattle.recovery.proofs.Tidies.{Tidy, tidy-before, tidy-keeps, cleaning-tidies}
 
@@ -54,6 +60,53 @@ parts z size es m h = by-head (header-found z (m 0)) refl h
     by-head : (u : Told StoreRefusal ChunkSize) → header-found z (m 0) ≡ u → next {B = Contents} u (λ size. next (scanned (shape-of z size) m most-areas 0 []) (λ e. good (record { size = size; table = e .table }))) ≡ good (record { size = size; table = es }) → Parts z size es m
     by-head (good size′) is g = by-scan size′ is (scanned (shape-of z size′) m most-areas 0 []) refl g
     by-head (refused f) is g = absurd (never-good g)
+
+-- a header that was taken
+pub record Taken (z : Sizes) (size : ChunkSize) (b : Bytes) : Type 0 where
+  pub shape : well-shaped z (sectors size) ≡ true
+  pub valid : Valid-header size b
+
+same-size : {a b : ChunkSize} → _≡_ {A = Told StoreRefusal ChunkSize} (good a) (good b) → a ≡ b
+same-size h = cc
+
+pub taken : (z : Sizes) (size : ChunkSize) (b : Bytes) → header-found z b ≡ good size → Taken z size b
+taken z size b h = by (header-read b) refl h
+  where
+    by : (v : Told ℕ Header) → header-read b ≡ v → header-judged z v ≡ good size → Taken z size b
+    by (refused n) is g = never (sym g)
+    by (good k) is g =
+        ⊎-elim
+        (λ shaped.
+        ⊎-elim
+        (λ valid.
+        let same : k .size ≡ size = same-size (sym (cond-true (k .valid) _ _ valid) ∙ sym (cond-true (well-shaped z (sectors (k .size))) _ _ shaped) ∙ g) in
+        record { shape = subst (λ c. well-shaped z (sectors c) ≡ true) same shaped; valid = is ∙ (λ i. good (record { valid = valid i; size = same i })) })
+        (λ invalid. never (sym (sym (cond-false (k .valid) _ _ invalid) ∙ sym (cond-true (well-shaped z (sectors (k .size))) _ _ shaped) ∙ g)))
+        (cases-bool (k .valid)))
+        (λ misshaped. never (sym (sym (cond-false (well-shaped z (sectors (k .size))) _ _ misshaped) ∙ g)))
+        (cases-bool (well-shaped z (sectors (k .size))))
+
+-- what an opening that finds a list knows of it
+pub record Known (z : Sizes) (size : ChunkSize) (es : List Exception) (d : Disk) (x : Ending) : Type 0 where
+  pub header : Taken z size (image d 0)
+  pub learnt : Learnt (shape-of z size) (image d) es
+  pub count : length es ≡ per-area (sectors size) * x .area + x .place
+  pub ends : End (shape-of z size) (image d) 0 x
+  pub on : (a q : ℕ) → per-area (sectors size) * a ≤ length es → q < sectors size → area-start (sectors size) a + q < d .count
+
+pub known : (z : Sizes) (size : ChunkSize) (es : List Exception) (d : Disk) → z .cow ≡ d .count → (p : Parts z size es (image d)) → Known z size es d (p .ending)
+known z size es d same p =
+    let s = shape-of z size in
+    let fine = scanned-fine s (image d) (p .ending) most-areas 0 [] (omega arith) (learnt-none s (image d)) (p .scan) in
+    let learnt = subst (Learnt s (image d)) (p .list) (fine .0) in
+    let header = taken z size (image d 0) (p .head) in
+    record {
+      header = header;
+      learnt = learnt;
+      count = ap length (sym (p .list)) ∙ fine .1;
+      ends = end-of s (image d) most-areas 0 [] (p .ending) (p .scan);
+      on = λ a q h l. subst (λ n. area-start (sectors size) a + q < n) same (area-sector-on z size es (header .shape) (learnt .sound) a q h l);
+    }
 
 -- what follows the scan
 abbrev cleaned-then : ℕ → Ending → Plan (Unit {0}) (Told StoreRefusal (List Exception))
@@ -122,12 +175,13 @@ opened-within A z size x c t d e ok before (cleaned (went run is)) = run-within 
 opened-within A z size x c t d e ok before (cleaned (broke f run is)) = run-within A ok run before
 
 pub opening-breaks : Opening-breaks
-opening-breaks z size es d e after t sure finds r cut =
+opening-breaks z size es d e after t same sure finds r cut =
     let p = parts z size es (image d) finds in
     let s = shape-of z size in
     let x = p .ending in
-    let ends = end-of s (image d) most-areas 0 [] x (p .scan) in
-    let long : (q : ℕ) → q < width s → length (image d (area-start (width s) (x .area) + q)) ≡ 512 = λ q l. sure .long _ in
+    let k = known z size es d same p in
+    let ends = k .ends in
+    let long : (q : ℕ) → q < width s → length (image d (area-start (width s) (x .area) + q)) ≡ 512 = λ q l. sure .long _ (k .on (x .area) q (omega (arith, k .count)) l) in
     let before : Within (Tidy s (image d) x) d = λ at b has. subst (Tidy s (image d) x at) (only (subst (λ o. Has (o ++ (d .cells at .latest ∷ [])) b) (sure .single at) has)) (tidy-before s (image d) x ends long at) in
     let all = cut-within (Tidy s (image d) x) (opened-within (Tidy s (image d) x) z size x _ t d e (cleaning-tidies s (image d) x ends long) before (opened z size x d (p .head) (p .scan) t e r)) cut in
     let again = scanned-again s (image d) (image after) x (tidy-keeps s (image d) x ends long (image after) all) most-areas 0 [] (p .scan) in

@@ -1,27 +1,31 @@
 -- What a scan finds is sound, and the sectors hold it.
 use mathlib.Core.Path.{_≡_, refl, sym, ap, ap₂, subst, _∙_}
-use mathlib.Core.Bool.{true, false, cond}
+use mathlib.Core.Bool.{true, false, cond, not, _&&_}
 use mathlib.Core.Logic.{⊎-elim}
 use mathlib.Core.List.{List, [], _∷_, _++_}
-use Prim.Native.Nat.{ℕ, zero, suc, _+_, _*_, _/_, _%_, _<_, _≤_}
-use native.Mathlib.Nat.{mul-add, mul-comm, mul-one}
+use Prim.Native.Nat.{ℕ, zero, suc, _+_, _-_, _*_, _/_, _%_, _<_, _≤_}
+use native.Mathlib.Nat.{mul-add, mul-comm, mul-one, mul-le-mul-right, div-add-mod}
 use native.Mathlib.Omega.{arith}
 use lib.Arith.{digits-div, digits-mod}
 use lib.Dec.{eqb, leb}
 use lib.ListN.{length, getD, take}
 use Rattle.std.proofs.shelf.Lists.{getD-append-left, getD-push, take-at, take-append-le}
-use Rattle.std.proofs.shelf.Tests.{cases-bool, cases-lt, eqb-false, leb-false, cond-true, cond-false}
+use Rattle.std.proofs.shelf.Tests.{cases-bool, cases-lt, and-parts, or-parts, eq-eqb, eqb-false, leb-true, leb-false, cond-true, cond-false}
 use Rattle.device.specs.Disk.{good}
 use Rattle.layout.specs.declared.exception.Exception.{Exception}
-use Rattle.layout.specs.Chunks.{per-area}
+use Rattle.layout.specs.declared.chunk.ChunkSize.{ChunkSize}
+use Rattle.layout.specs.Chunks.{sectors, per-area, area-chunk, area-start}
 use Rattle.layout.specs.Entries.{nothing, nth-entry}
-use Rattle.exceptions.specs.Table.{entries-at-most}
+use Rattle.exceptions.specs.Table.{entries-at-most, has-old, has-new}
 use Rattle.store.specs.declared.shape.Shape.{Shape}
-use Rattle.store.specs.Judge.{width, damaged}
+use Rattle.store.specs.Image.{Sizes, well-shaped}
+use Rattle.store.specs.Judge.{width, on-data, damaged}
 use Rattle.store.specs.Scanning.{Parsed, full, over, many, wrong, parsed, Ending, concluded}
+use Rattle.store.specs.Steps.{shape-of}
 use Rattle.recovery.specs.Breaks.{more}
 use Rattle.recovery.specs.Holding.{Sound}
 use Rattle.recovery.specs.Readings.{Image, area-bytes, scanned}
+use Rattle.recovery.proofs.Finds.{sectors-within}
 use Rattle.recovery.proofs.Pictures.{length-more}
 
 module _ (s : Shape) (m : Image) where
@@ -133,3 +137,27 @@ module _ (s : Shape) (m : Image) where
           subst (λ t. Learnt t × (length t ≡ per-area (width s) * x .area + x .place)) list (f .0, f .1 ∙ ap₂ (λ b j. per-area (width s) * b + j) area place)
       by on many f g = absurd (let z : _≡_ {A = ℕ} 0 1 = cc in omega arith)
       by on (wrong k) f g = absurd (let z : _≡_ {A = ℕ} 0 1 = cc in omega arith)
+
+-- the areas that a sound list reaches are on the device
+module _ (z : Sizes) (size : ChunkSize) (es : List Exception) (shape : well-shaped z (sectors size) ≡ true) (sound : Sound (shape-of z size) es) where
+  area-on : (a : ℕ) → per-area (sectors size) * a ≤ length es → area-chunk (sectors size) a < z .cow / sectors size
+  area-on zero h = let three = leb-true 3 (z .cow / sectors size) (and-parts (eqb (z .origin % sectors size) 0) _ shape .1) in omega arith
+  area-on (suc a) h =
+      let e = per-area (sectors size) in
+      let some = sectors-within size .0 in
+      let flat : e * suc a ≡ e * a + e = (let up : suc a ≡ a + 1 = omega arith in ap (λ n. e * n) up) ∙ mul-add e a 1 ∙ ap (λ n. e * a + n) (mul-one e) in
+      let x = getD es (e * a + (e - 1)) nothing in
+      let before = take (e * a + (e - 1)) es in
+      let s = shape-of z size in
+      let whole = sound .whole a (e - 1) (omega arith) (omega arith) in
+      let rest = or-parts (has-new before (x .new)) _ (or-parts (has-old before (x .old)) _ (or-parts (not (on-data s (x .new))) _ (or-parts (leb (s .olds) (x .old)) _ whole .1) .1) .1) .1 in
+      let last : eqb (e - 1 + 1) e ≡ true = eq-eqb _ _ (omega arith) in
+      let up : a + 1 ≡ suc a = omega arith in
+      subst (λ n. area-chunk (sectors size) n < z .cow / sectors size) up (leb-false _ _ (sym (ap (λ t. t && leb (s .chunks) (area-chunk (sectors size) (a + 1))) last) ∙ rest))
+
+  -- and so are their sectors
+  pub area-sector-on : (a q : ℕ) → per-area (sectors size) * a ≤ length es → q < sectors size → area-start (sectors size) a + q < z .cow
+  area-sector-on a q h l =
+      let c = sectors size in
+      let chunks : (area-chunk c a + 1) * c ≤ (z .cow / c) * c = mul-le-mul-right c (let up : area-chunk c a + 1 ≤ z .cow / c = omega (arith, area-on a h) in up) in
+      omega (arith, mul-comm (area-chunk c a + 1) c, mul-add c (area-chunk c a) 1, mul-one c, mul-comm c (area-chunk c a), mul-comm (z .cow / c) c, div-add-mod (z .cow) c)

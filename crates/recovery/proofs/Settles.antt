@@ -48,21 +48,21 @@ piece l b c p q size inside low high is =
     ∙ ap₂ _++_ (sym (take-take n 512 (drop (512 * q) l) (omega (arith, here))) ∙ ap (take n) is) (take-replicate (512 - n) _ 0 (omega (arith, here))))
     (cases-lt p (32 * q))
 
-module _ (s : Shape) (m : Image) (es : List Exception) (a p : ℕ) (learnt : Learnt s m es) (size : length es ≡ per-area (width s) * a + p) (inside : p < per-area (width s)) (long : (t : ℕ) → length (m t) ≡ 512) (small : (t : ℕ) → Small (m t)) where
+module _ (s : Shape) (m : Image) (es : List Exception) (a p : ℕ) (learnt : Learnt s m es) (size : length es ≡ per-area (width s) * a + p) (inside : p < per-area (width s)) (long : (b q : ℕ) → per-area (width s) * b ≤ length es → q < width s → length (m (area-start (width s) b + q)) ≡ 512) (small : (b q : ℕ) → per-area (width s) * b ≤ length es → q < width s → Small (m (area-start (width s) b + q))) where
   -- a sector that reads as entries of the list, with zeros after them
-  reads-pic : (b q n : ℕ) → q < width s → length (take 32 (drop (32 * (width s * b + q)) es)) ≡ n → take (16 * n) (m (area-start (width s) b + q)) ++ replicate (512 - 16 * n) 0 ≡ pic es (width s * b + q)
-  reads-pic b q n l count =
+  reads-pic : (b q n : ℕ) → per-area (width s) * b ≤ length es → q < width s → length (take 32 (drop (32 * (width s * b + q)) es)) ≡ n → take (16 * n) (m (area-start (width s) b + q)) ++ replicate (512 - 16 * n) 0 ≡ pic es (width s * b + q)
+  reads-pic b q n here l count =
       let few = length-take 32 (drop (32 * (width s * b + q)) es) in
       let rest = length-drop (32 * (width s * b + q)) es in
       let flat = mul-assoc 32 (width s) b in
-      sector-pic es (width s * b + q) n (m (area-start (width s) b + q)) count (long _) (small _)
+      sector-pic es (width s * b + q) n (m (area-start (width s) b + q)) count (long b q here l) (small b q here l)
       (λ r h.
       let k = 32 * q + r in
       let sector : q ≡ k / 32 = omega (arith, few) in
       let place : r ≡ k % 32 = omega (arith, few) in
       let at : per-area (width s) * b + k ≡ 32 * (width s * b + q) + r = omega arith in
       (λ i. entry-from (m (area-start (width s) b + sector i)) (16 * place i))
-      ∙ sym (entry-in-area s m b (λ q _. long _) k (omega (arith, few)))
+      ∙ sym (entry-in-area s m b (λ q l. long b q here l) k (omega (arith, few)))
       ∙ learnt .entries b k (omega (arith, few)) (omega (arith, few, rest))
       ∙ ap (λ i. getD es i nothing) at)
 
@@ -72,8 +72,8 @@ module _ (s : Shape) (m : Image) (es : List Exception) (a p : ℕ) (learnt : Lea
       let flat = mul-assoc 32 (width s) b in
       let count : length (take 32 (drop (32 * (width s * b + q)) es)) ≡ 32 = length-take-le 32 (drop (32 * (width s * b + q)) es) (let rest = length-drop (32 * (width s * b + q)) es in omega arith) in
       sym (append-nil (m (area-start (width s) b + q)))
-      ∙ ap (λ x. x ++ []) (sym (take-all 512 (m (area-start (width s) b + q)) (omega (arith, long (area-start (width s) b + q)))))
-      ∙ reads-pic b q 32 l count
+      ∙ ap (λ x. x ++ []) (sym (take-all 512 (m (area-start (width s) b + q)) (omega (arith, long b q (omega arith) l))))
+      ∙ reads-pic b q 32 (omega arith) l count
 
   -- a cleaned sector, from the one with the end entry on
   pub from-end : (q : ℕ) → q < width s → p < 32 * q + 32 → take 512 (drop (512 * q) (cleaned (area-bytes s m a) p)) ≡ pic es (width s * a + q)
@@ -82,4 +82,4 @@ module _ (s : Shape) (m : Image) (es : List Exception) (a p : ℕ) (learnt : Lea
       let rest = length-drop (32 * (width s * a + q)) es in
       let few = length-take 32 (drop (32 * (width s * a + q)) es) in
       let count : length (take 32 (drop (32 * (width s * a + q)) es)) ≡ p - 32 * q = omega arith in
-      piece (area-bytes s m a) (m (area-start (width s) a + q)) (width s) p q (length-area s m a (λ q _. long _)) inside l h (sector-of-area s m a (λ q _. long _) q l) ∙ reads-pic a q (p - 32 * q) l count
+      piece (area-bytes s m a) (m (area-start (width s) a + q)) (width s) p q (length-area s m a (λ q l. long a q (omega arith) l)) inside l h (sector-of-area s m a (λ q l. long a q (omega arith) l) q l) ∙ reads-pic a q (p - 32 * q) (omega arith) l count

@@ -18,12 +18,10 @@ use Rattle.device.proofs.Sectors.{only}
 use Rattle.device.proofs.Uses.{Went, went-on, left-in, was-refused, went as went-one, over as run-over, not-good}
 use Rattle.layout.specs.declared.chunk.ChunkSize.{ChunkSize}
 use Rattle.layout.specs.declared.exception.Exception.{Exception}
-use Rattle.layout.specs.declared.header.Header.{Header}
 use Rattle.layout.specs.Chunks.{sectors, per-area, area-chunk, area-start, is-data}
 use Rattle.layout.specs.Entries.{nothing, pic, Fits}
-use Rattle.layout.specs.Headers.{header-read}
 use Rattle.store.specs.declared.shape.Shape.{Shape}
-use Rattle.store.specs.Image.{Sizes, well-shaped, header-judged, header-found, all-zero, cleaned}
+use Rattle.store.specs.Image.{Sizes, all-zero, cleaned}
 use Rattle.store.specs.Judge.{width, on-data, damaged}
 use Rattle.store.specs.Refusals.{StoreRefusal, up}
 use Rattle.store.specs.Scanning.{Ending, most-areas}
@@ -32,11 +30,11 @@ use Rattle.recovery.specs.Readings.{Image, image, area-bytes, found}
 use Rattle.recovery.specs.Holding.{Sound}
 use Rattle.recovery.specs.Standing.{Valid-header, Standing, Listed, Stands, Finds}
 use Rattle.recovery.specs.Breaks.{Sure, Opening-stands}
-use Rattle.recovery.proofs.Again.{End, end-of}
+use Rattle.recovery.proofs.Again.{End}
 use Rattle.recovery.proofs.Calls.{Did, went, broke, never-good}
-use Rattle.recovery.proofs.Cleans.{Parts, parts, Opened, unread, cleaned as ran-cleaning, opened}
+use Rattle.recovery.proofs.Cleans.{Parts, parts, known, Opened, unread, cleaned as ran-cleaning, opened}
 use Rattle.recovery.proofs.Finds.{sectors-within}
-use Rattle.recovery.proofs.Learns.{Learnt, learnt-none, scanned-fine}
+use Rattle.recovery.proofs.Learns.{Learnt}
 use Rattle.recovery.proofs.Opens.{opening-finds}
 use Rattle.recovery.proofs.Places.{not-header}
 use Rattle.recovery.proofs.Sectors.{Small, zeros-are}
@@ -86,15 +84,15 @@ module _ (s : Shape) (x : Ending) (d e : Disk) where
       let rest = zeros-are (drop (16 * x .place) (x .bytes)) z in
       ap (λ l. take (16 * x .place) (x .bytes) ++ l) (ap (λ n. replicate n 0) (sym (length-drop (16 * x .place) (x .bytes))) ∙ sym rest) ∙ take-append-drop (16 * x .place) (x .bytes)
 
-  cleans-well : Sure d → x .bytes ≡ area-bytes s (image d) (x .area) → x .place < per-area (width s) → Runs one (cleaning (width s) x) d (good tt) e → Cleaned
-  cleans-well sure bytes inside r =
+  cleans-well : Sure d → ((q : ℕ) → q < width s → length (image d (first + q)) ≡ 512) → x .bytes ≡ area-bytes s (image d) (x .area) → x .place < per-area (width s) → Runs one (cleaning (width s) x) d (good tt) e → Cleaned
+  cleans-well sure long bytes inside r =
       ⊎-elim
       (λ z.
       let o : e ≡ d = run-over (subst (λ p. Runs one p d (good tt) e) (cond-true (all-zero (drop (16 * x .place) (x .bytes))) _ _ z) r) .1 in
       record {
         below = λ t l. ap (λ y. image y t) o;
         above = λ q l h.
-            ap (λ y. image y (first + q)) o ∙ sym (sector-of-area s (image d) (x .area) (λ q _. sure .long _) q h) ∙ ap (λ b. take 512 (drop (512 * q) b)) (sym bytes ∙ sym (same-when-zero z));
+            ap (λ y. image y (first + q)) o ∙ sym (sector-of-area s (image d) (x .area) long q h) ∙ ap (λ b. take 512 (drop (512 * q) b)) (sym bytes ∙ sym (same-when-zero z));
         single = λ t b has. only (subst (λ l. Has (l ++ (image e t ∷ [])) b) (ap (λ y. y .cells t .older) o ∙ sure .single t) has);
       })
       (λ nz.
@@ -113,32 +111,7 @@ module _ (s : Shape) (x : Ending) (d e : Disk) where
       })
       (cases-bool (all-zero (drop (16 * x .place) (x .bytes))))
 
--- THE HEADER AND THE LIST
-
--- a header that was taken
-record Taken (z : Sizes) (size : ChunkSize) (b : Bytes) : Type 0 where
-  shape : well-shaped z (sectors size) ≡ true
-  valid : Valid-header size b
-
-same-size : {a b : ChunkSize} → _≡_ {A = Told StoreRefusal ChunkSize} (good a) (good b) → a ≡ b
-same-size h = cc
-
-taken : (z : Sizes) (size : ChunkSize) (b : Bytes) → header-found z b ≡ good size → Taken z size b
-taken z size b h = by (header-read b) refl h
-  where
-    by : (v : Told ℕ Header) → header-read b ≡ v → header-judged z v ≡ good size → Taken z size b
-    by (refused n) is g = never-good (sym g)
-    by (good k) is g =
-        ⊎-elim
-        (λ shaped.
-        ⊎-elim
-        (λ valid.
-        let same : k .size ≡ size = same-size (sym (cond-true (k .valid) _ _ valid) ∙ sym (cond-true (well-shaped z (sectors (k .size))) _ _ shaped) ∙ g) in
-        record { shape = subst (λ c. well-shaped z (sectors c) ≡ true) same shaped; valid = is ∙ (λ i. good (record { valid = valid i; size = same i })) })
-        (λ invalid. never-good (sym (sym (cond-false (k .valid) _ _ invalid) ∙ sym (cond-true (well-shaped z (sectors (k .size))) _ _ shaped) ∙ g)))
-        (cases-bool (k .valid)))
-        (λ misshaped. never-good (sym (sym (cond-false (well-shaped z (sectors (k .size))) _ _ misshaped) ∙ g)))
-        (cases-bool (well-shaped z (sectors (k .size))))
+-- THE LIST
 
 -- the numbers of a sound list are small
 module _ (z : Sizes) (size : ChunkSize) (es : List Exception) (sound : Sound (shape-of z size) es) (low : z .origin < 2 ^ 32) (few : z .cow < 2 ^ 32) where
@@ -166,7 +139,7 @@ module _ (z : Sizes) (size : ChunkSize) (es : List Exception) (sound : Sound (sh
 
 -- THE LIST STANDS
 
-module _ (z : Sizes) (size : ChunkSize) (es : List Exception) (x : Ending) (d e : Disk) (sure : Sure d) (small : (t : ℕ) → Small (image d t)) (learnt : Learnt (shape-of z size) (image d) es) (count : length es ≡ per-area (sectors size) * x .area + x .place) (ends : End (shape-of z size) (image d) 0 x) (valid : Valid-header size (image d 0)) (done : Cleaned (shape-of z size) x d e) where
+module _ (z : Sizes) (size : ChunkSize) (es : List Exception) (x : Ending) (d e : Disk) (long : (b q : ℕ) → per-area (sectors size) * b ≤ length es → q < sectors size → length (image d (area-start (sectors size) b + q)) ≡ 512) (small : (b q : ℕ) → per-area (sectors size) * b ≤ length es → q < sectors size → Small (image d (area-start (sectors size) b + q))) (learnt : Learnt (shape-of z size) (image d) es) (count : length es ≡ per-area (sectors size) * x .area + x .place) (ends : End (shape-of z size) (image d) 0 x) (valid : Valid-header size (image d 0)) (done : Cleaned (shape-of z size) x d e) where
   -- areas before the one with the end entry lie below it
   area-below : (a q : ℕ) → a < x .area → q < sectors size → area-start (sectors size) a + q < area-start (sectors size) (x .area)
   area-below a q h l =
@@ -177,14 +150,14 @@ module _ (z : Sizes) (size : ChunkSize) (es : List Exception) (x : Ending) (d e 
       omega (arith, mul-comm (area-chunk c a + 1) c, mul-add c (area-chunk c a) 1, mul-one c, mul-comm c (area-chunk c a))
 
   unchanged : (a q : ℕ) → q < sectors size → per-area (sectors size) * a + 32 * q + 32 ≤ length es → area-start (sectors size) a + q < area-start (sectors size) (x .area) + x .place / 32 → image e (area-start (sectors size) a + q) ≡ pic es (sectors size * a + q)
-  unchanged a q l h lt = done .below _ lt ∙ before-end (shape-of z size) (image d) es (x .area) (x .place) learnt count (ends .inside) (sure .long) small a q l h
+  unchanged a q l h lt = done .below _ lt ∙ before-end (shape-of z size) (image d) es (x .area) (x .place) learnt count (ends .inside) long small a q l h
 
   last-area : (q : ℕ) → q < sectors size → image e (area-start (sectors size) (x .area) + q) ≡ pic es (sectors size * x .area + q)
   last-area q l =
       ⊎-elim
       (λ before. unchanged (x .area) q l (omega (arith, before)) (omega (arith, before)))
       (λ from.
-      done .above q from l ∙ ap (λ b. take 512 (drop (512 * q) (cleaned b (x .place)))) (ends .bytes) ∙ from-end (shape-of z size) (image d) es (x .area) (x .place) learnt count (ends .inside) (sure .long) small q l (omega (arith, from)))
+      done .above q from l ∙ ap (λ b. take 512 (drop (512 * q) (cleaned b (x .place)))) (ends .bytes) ∙ from-end (shape-of z size) (image d) es (x .area) (x .place) learnt count (ends .inside) long small q l (omega (arith, from)))
       (cases-lt q (x .place / 32))
 
   in-area : (a q : ℕ) → q < sectors size → per-area (sectors size) * a ≤ length es → image e (area-start (sectors size) a + q) ≡ pic es (sectors size * a + q)
@@ -213,7 +186,7 @@ module _ (z : Sizes) (size : ChunkSize) (es : List Exception) (x : Ending) (d e 
   }
 
 pub opening-stands : Opening-stands
-opening-stands z size es d e low few sure small r = found-then (opening-finds z d e (good (record { size = size; table = es })) r)
+opening-stands z size es d e low few same sure small r = found-then (opening-finds z d e (good (record { size = size; table = es })) r)
   where
     m : Image
     m = image d
@@ -223,15 +196,13 @@ opening-stands z size es d e low few sure small r = found-then (opening-finds z 
     ready p (went run is) =
         let s = shape-of z size in
         let x = p .ending in
-        let ends = end-of s (image d) most-areas 0 [] x (p .scan) in
-        let fine = scanned-fine s (image d) x most-areas 0 [] (omega arith) (learnt-none s (image d)) (p .scan) in
-        let learnt = subst (Learnt s (image d)) (p .list) (fine .0) in
-        let count = ap length (sym (p .list)) ∙ fine .1 in
-        let header = taken z size (image d 0) (p .head) in
-        let done = cleans-well s x d e sure (ends .bytes) (ends .inside) run in
+        let k = known z size es d same p in
+        let long : (b q : ℕ) → per-area (sectors size) * b ≤ length es → q < sectors size → length (image d (area-start (sectors size) b + q)) ≡ 512 = λ b q h l. sure .long _ (k .on b q h l) in
+        let narrow : (b q : ℕ) → per-area (sectors size) * b ≤ length es → q < sectors size → Small (image d (area-start (sectors size) b + q)) = λ b q h l. small _ (k .on b q h l) in
+        let done = cleans-well s x d e sure (λ q l. long (x .area) q (omega (arith, k .count)) l) (k .ends .bytes) (k .ends .inside) run in
         record {
-          listed = record { shape = header .shape; sound = learnt .sound; fits = fits-all z size es (learnt .sound) low few };
-          sectors = λ t b has. subst (Standing s es t) (done .single t b has) (stand-at z size es x d e sure small learnt count ends (header .valid) done t);
+          listed = record { shape = k .header .shape; sound = k .learnt .sound; fits = fits-all z size es (k .learnt .sound) low few };
+          sectors = λ t b has. subst (Standing s es t) (done .single t b has) (stand-at z size es x d e long narrow (k .learnt) (k .count) (k .ends) (k .header .valid) done t);
         }
 
     by : (p : Parts z size es m) → Opened z size (p .ending) {A = Contents} (record { size = size; table = p .ending .table }) (good (record { size = size; table = es })) d e → Stands z size es e

@@ -82,16 +82,16 @@ Dropping-breaks =
 -- one possibility a sector, of 512 bytes, as a power cut leaves them
 pub record Sure (d : Disk) : Type 0 where
   pub single : (s : ℕ) → d .cells s .older ≡ []
-  pub long : (s : ℕ) → length (image d s) ≡ 512
+  pub long : (s : ℕ) → s < d .count → length (image d s) ≡ 512
 
 -- opening, wherever it breaks off: the same list is found again
 abbrev pub Opening-breaks : Type 0
 Opening-breaks =
     (z : Sizes) (size : ChunkSize) (es : List Exception) (d e after : Disk) (t : Told StoreRefusal Contents) →
-    Sure d → Finds z size es (image d) → Runs one (opening z 8192) d t e → Cut e after → Finds z size es (image after)
+    z .cow ≡ d .count → Sure d → Finds z size es (image d) → Runs one (opening z 8192) d t e → Cut e after → Finds z size es (image after)
 
 -- opening, when it is good: the list stands
 abbrev pub Opening-stands : Type 0
 Opening-stands =
     (z : Sizes) (size : ChunkSize) (es : List Exception) (d e : Disk) → z .origin < 2 ^ 32 → z .cow < 2 ^ 32 →
-    Sure d → ((s : ℕ) → All (λ b. b < 256) (image d s)) → Runs one (opening z 8192) d (good (record { size = size; table = es })) e → Stands z size es e
+    z .cow ≡ d .count → Sure d → ((s : ℕ) → s < d .count → All (λ b. b < 256) (image d s)) → Runs one (opening z 8192) d (good (record { size = size; table = es })) e → Stands z size es e
