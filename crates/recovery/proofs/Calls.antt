@@ -55,11 +55,11 @@ same-answer h = cc
 -- ENTERING
 
 -- a call of enter: refused without a device call, or the steps of entering an old chunk at the next place
-data Entered (z : Sizes) (size : ChunkSize) (es : List Exception) (old : ℕ) (t : Told StoreRefusal (List Exception)) (d e : Disk) : Type 0 where
+pub data Entered (z : Sizes) (size : ChunkSize) (es : List Exception) (old : ℕ) (t : Told StoreRefusal (List Exception)) (d e : Disk) : Type 0 where
   declined : (f : StoreRefusal) → t ≡ refused f → e ≡ d → Entered z size es old t d e
   tried : (p : ℕ) → has-old es old ≡ false → old < z .origin / sectors size → room entries-at-most (sectors size) (z .cow / sectors size) es ≡ Some p → Did (entering (sectors size) (more es (record { old = old; new = p })) (length es)) (more es (record { old = old; new = p })) t d e → Entered z size es old t d e
 
-entered : (z : Sizes) (size : ChunkSize) (es : List Exception) (old : ℕ) (t : Told StoreRefusal (List Exception)) (d e : Disk) → Runs one (enter (shape-of z size) es old) d t e → Entered z size es old t d e
+pub entered : (z : Sizes) (size : ChunkSize) (es : List Exception) (old : ℕ) (t : Told StoreRefusal (List Exception)) (d e : Disk) → Runs one (enter (shape-of z size) es old) d t e → Entered z size es old t d e
 entered z size es old t d e r =
     ⊎-elim
     (λ bad. let o = run-over (subst (λ p. Runs one p d t e) (cond-true test _ _ bad) r) in declined _ (o .0) (o .1))
@@ -126,7 +126,7 @@ drop-breaks z size (x ∷ xs) d e after t stands r cut = by (did (dropping (sect
 -- SPOILING
 
 -- a plan with its refusal passed up: a run of the plan itself, good where the answer is
-lifts : (p : Plan (Unit {0}) (Told Refusal (Unit {0}))) (t : Told StoreRefusal (Unit {0})) (d e : Disk) → Runs one (lifted up p) d t e → Did {A = Unit {0}} p tt t d e
+pub lifts : (p : Plan (Unit {0}) (Told Refusal (Unit {0}))) (t : Told StoreRefusal (Unit {0})) (d e : Disk) → Runs one (lifted up p) d t e → Did {A = Unit {0}} p tt t d e
 lifts p t d e r = let h = halves p (λ u. done (raised up u)) r in by (h .mid) (h .between) (h .first) (h .rest)
   where
     by : (u : Told Refusal (Unit {0})) (mid : Disk) → Runs one p d u mid → Runs one (done (raised up u)) mid t e → Did {A = Unit {0}} p tt t d e

@@ -26,7 +26,7 @@ use Rattle.store.specs.Scanning.{Ending, most-areas, scanning}
 use Rattle.store.specs.Steps.{Contents, shape-of, cleaning, loading, heading, opening}
 use Rattle.recovery.specs.Readings.{Image, image, scanned, next, found}
 use Rattle.recovery.specs.Standing.{Within, Valid-header, Finds}
-use Rattle.recovery.specs.Breaks.{Sure, Opening-breaks}
+use Rattle.recovery.specs.Breaks.{Sure, Cut-sure, Opening-breaks}
 use Rattle.recovery.proofs.Again.{End, end-of, scanned-again}
 use Rattle.recovery.proofs.Allowed.{Writes, run-within, cut-within}
 use Rattle.recovery.proofs.Calls.{Did, went, broke, did, never-good as never}
@@ -189,3 +189,6 @@ opening-breaks z size es d e after t same sure finds r cut =
     ap (λ u. next u (λ size. next (scanned (shape-of z size) (image after) most-areas 0 []) (λ e. good (record { size = size; table = e .table })))) head
     ∙ ap (λ v. next v (λ e. good (record { size = size; table = e .table }))) again
     ∙ ap (λ l. good (record { size = size; table = l })) (p .list)
+
+pub cut-sure : Cut-sure
+cut-sure d after whole cut = record { single = cut .single; long = λ s l. whole .long s (image after s) (subst (λ n. s < n) (cut .same-count) l) (cut .one-of s) }

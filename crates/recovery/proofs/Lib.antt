@@ -20,3 +20,5 @@ pub mod Learns
 pub mod Sectors
 pub mod Settles
 pub mod Stays
+pub mod Keeps
+pub mod Datas

@@ -7,7 +7,7 @@ use Prim.Native.Nat.{ℕ, _/_, _^_, _<_, _≤_}
 use lib.ListN.{length, take}
 use Rattle.std.specs.shelf.Lists.{All, Has}
 use Rattle.std.specs.declared.option.Option.the-variants.{Some}
-use Rattle.device.specs.Disk.{Disk, possibilities, Told, good, refused, Refusal, Cut}
+use Rattle.device.specs.Disk.{Disk, possibilities, Told, good, refused, Refusal, Whole, Cut}
 use Rattle.device.specs.Plans.{Runs, one}
 use Rattle.layout.specs.declared.chunk.ChunkSize.{ChunkSize}
 use Rattle.layout.specs.declared.exception.Exception.{Exception}
@@ -83,6 +83,10 @@ Dropping-breaks =
 pub record Sure (d : Disk) : Type 0 where
   pub single : (s : ℕ) → d .cells s .older ≡ []
   pub long : (s : ℕ) → s < d .count → length (image d s) ≡ 512
+
+-- what is left of any device is so
+abbrev pub Cut-sure : Type 0
+Cut-sure = (d after : Disk) → Whole d → Cut d after → Sure after
 
 -- opening, wherever it breaks off: the same list is found again
 abbrev pub Opening-breaks : Type 0

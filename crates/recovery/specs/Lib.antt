@@ -3,3 +3,4 @@ pub mod Holding
 pub mod Standing
 pub mod Breaks
 pub mod Calls
+pub mod Data

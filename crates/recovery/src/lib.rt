@@ -1,7 +1,8 @@
 // What a power cut leaves of a store, and what opening finds then. This crate is theory: its
 // functions have no code, and their contracts name the theorems.
-ghost use Rattle.recovery.specs.Breaks.{Dropping-breaks, Dropping-stands, Entering-breaks, Entering-listed, Entering-stands, Making-breaks, Making-stands, Opening-breaks, Opening-stands, Spoiling-breaks};
+ghost use Rattle.recovery.specs.Breaks.{Cut-sure, Dropping-breaks, Dropping-stands, Entering-breaks, Entering-listed, Entering-stands, Making-breaks, Making-stands, Opening-breaks, Opening-stands, Spoiling-breaks};
 ghost use Rattle.recovery.specs.Calls.{Drop-breaks, Drop-stands, Enter-breaks, Enter-stands, Make-breaks, Make-stands, Spoil-breaks, Spoil-stays};
+ghost use Rattle.recovery.specs.Data.{Calls-keep-data, Data-calls-keep-list};
 ghost use Rattle.recovery.specs.Holding.{Finds-what-it-holds, Pictures-hold};
 ghost use Rattle.recovery.specs.Readings.{Opening-finds};
 ghost use Rattle.recovery.specs.Standing.{Standing-opens};
@@ -11,9 +12,10 @@ pub fn opening_finds_what_is_there()
     ensures { λ _. ⌜ Opening-finds ⌝ }
 {}
 
-// After a good opening the list stands. Broken off anywhere, in its cleaning too, and after any
-// power cut, opening finds the same list again.
+// On what a power cut leaves of a device: after a good opening the list stands. Broken off anywhere,
+// in its cleaning too, and after any power cut, opening finds the same list again.
 pub fn opening_survives_cuts()
+    ensures sure { λ _. ⌜ Cut-sure ⌝ }
     ensures stands { λ _. ⌜ Opening-stands ⌝ }
     ensures breaks { λ _. ⌜ Opening-breaks ⌝ }
 {}
@@ -62,4 +64,10 @@ pub fn dropping_survives_cuts()
     ensures breaks { λ _. ⌜ Dropping-breaks ⌝ }
     ensures call_stands { λ _. ⌜ Drop-stands ⌝ }
     ensures call_breaks { λ _. ⌜ Drop-breaks ⌝ }
+{}
+
+// No call but a data write changes a data sector, and no data call changes the list.
+pub fn data_and_list_are_apart()
+    ensures sectors { λ _. ⌜ Calls-keep-data ⌝ }
+    ensures list { λ _. ⌜ Data-calls-keep-list ⌝ }
 {}
