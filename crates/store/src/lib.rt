@@ -12,5 +12,4 @@ mod tests;
 pub use fault::FromDevice;
 pub use fault::FromHeader;
 pub use fault::StoreFault;
-pub use shape::Shape;
 pub use store::Store;

@@ -243,7 +243,7 @@ impl<C: Device> Store<C> {
         Ok(())
     }
 
-    // Reads a sector of a data chunk, with an origin of so many chunks.
+    // Reads a sector of a data chunk.
     pub fn data_read(&mut self, sector: u32, buffer: &mut [u8]) -> Result<(), StoreFault>
         ensures call { λ r. ⌜ Runs one (data-read (shaped 0 (C·Device .disk (now (self .entry) .cow) .count) (now (self .entry) .size)) sector (length (now (buffer .entry)))) (C·Device .disk (now (self .entry) .cow)) (told r (now (buffer .exit))) (C·Device .disk (now (self .exit) .cow)) ⌝ }
         ensures size { λ r. ⌜ now (self .exit) .size ≡ now (self .entry) .size ⌝ }
