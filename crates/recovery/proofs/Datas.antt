@@ -7,9 +7,11 @@ use Prim.Native.Nat.{ℕ, _/_, _<_}
 use native.Mathlib.Omega.{arith}
 use lib.Dec.{eqb, ltb}
 use lib.ListN.{length}
+use Rattle.std.specs.shelf.Lists.{Has}
 use Rattle.std.proofs.shelf.Tests.{cases-bool, and-parts, cond-true, cond-false}
-use Rattle.device.specs.Disk.{Bytes, Disk, reads, writes, flushes, Told, good, refused, Refusal}
+use Rattle.device.specs.Disk.{Bytes, Disk, possibilities, reads, writes, flushes, Told, good, refused, Refusal}
 use Rattle.device.specs.Plans.{Plan, done, call, Runs, one, onward, raised, lifted}
+use Rattle.device.proofs.Possible.{last-has}
 use Rattle.device.proofs.Uses.{over as run-over}
 use Rattle.layout.specs.declared.chunk.ChunkSize.{ChunkSize}
 use Rattle.layout.specs.declared.exception.Exception.{Exception}
@@ -71,9 +73,24 @@ data-free z size es s b is = record {
   areas = λ a q l le at. absurd (area-no-data (sectors size) a q l (subst (Is-data (sectors size)) at is));
 }
 
--- steps that write what the list allows
-still-stands : {X : Type 0} (z : Sizes) (size : ChunkSize) (es : List Exception) (p : Plan (Unit {0}) X) (x : X) (d e : Disk) → Writes (Standing (shape-of z size) es) p → Stands z size es d → Runs one p d x e → Stands z size es e
-still-stands z size es p x d e ok stands r = record { listed = stands .listed; sectors = run-within (Standing (shape-of z size) es) ok r (stands .sectors) }
+-- steps that write nothing but data
+abbrev Only-data : {X : Type 0} → ℕ → Plan (Unit {0}) X → Type 1
+Only-data c p = (A : ℕ → Bytes → Type 0) → ((s : ℕ) (b : Bytes) → Is-data c s → A s b) → Writes A p
+
+-- the header is the one that was
+abbrev Header-stays : Disk → ℕ → Bytes → Type 0
+Header-stays d s b = s ≡ 0 → b ≡ image d 0
+
+still-stands : {X : Type 0} (z : Sizes) (size : ChunkSize) (es : List Exception) (p : Plan (Unit {0}) X) (x : X) (d e : Disk) → Only-data (sectors size) p → Stands z size es d → Runs one p d x e → Stands z size es e
+still-stands z size es p x d e only stands r =
+    let header-free : (s : ℕ) (b : Bytes) → Is-data (sectors size) s → Header-stays d s b = λ s b is zero. absurd (header-no-data (sectors size) (sectors-within size .0) (subst (Is-data (sectors size)) zero is)) in
+    let begins : Within (Header-stays d) d = λ s b has zero. sym (stands .single b (subst (λ t. Has (possibilities (d .cells t)) b) zero has)) in
+    let same = run-within (Header-stays d) (only (Header-stays d) header-free) r begins in
+    record {
+      listed = stands .listed;
+      sectors = run-within (Standing (shape-of z size) es) (only (Standing (shape-of z size) es) (data-free z size es)) r (stands .sectors);
+      single = λ b has. same 0 (image e 0) (last-has (e .cells 0)) refl ∙ sym (same 0 b has refl);
+    }
 
 module _ (A : ℕ → Bytes → Type 0) (s : ℕ) where
   read-ends : (t : Told Refusal Bytes) → Writes A (onward (raised up t) (λ b. done (good b)))
@@ -110,12 +127,12 @@ module _ (A : ℕ → Bytes → Type 0) (s : ℕ) where
       steps u = asking (writes s bytes) (λ _. done (good tt))
 
 flush-stands : (z : Sizes) (size : ChunkSize) (es : List Exception) (d e : Disk) (t : Told StoreRefusal (Unit {0})) → Stands z size es d → Did {A = Unit {0}} (flushing finished) tt t d e → Stands z size es e
-flush-stands z size es d e t stands (went run is) = still-stands z size es (flushing finished) _ d e (tt, on-good (Standing (shape-of z size) es) (λ _. finished) (λ _. tt)) stands run
-flush-stands z size es d e t stands (broke f run is) = still-stands z size es (flushing finished) _ d e (tt, on-good (Standing (shape-of z size) es) (λ _. finished) (λ _. tt)) stands run
+flush-stands z size es d e t stands (went run is) = still-stands z size es (flushing finished) _ d e (λ A ok. (tt, on-good A (λ _. finished) (λ _. tt))) stands run
+flush-stands z size es d e t stands (broke f run is) = still-stands z size es (flushing finished) _ d e (λ A ok. (tt, on-good A (λ _. finished) (λ _. tt))) stands run
 
 pub data-calls-keep-list : Data-calls-keep-list
 data-calls-keep-list = record {
-  reading = λ z size es s len d e t stands r. still-stands z size es (data-read (shape-of z size) s len) t d e (reading-writes (Standing (shape-of z size) es) s len (data-test (shape-of z size) s len)) stands r;
-  writing = λ z size es s bytes d e t stands r. still-stands z size es (data-write (shape-of z size) s bytes) t d e (writing-writes (Standing (shape-of z size) es) s (shape-of z size) bytes (data-free z size es s bytes)) stands r;
+  reading = λ z size es s len d e t stands r. still-stands z size es (data-read (shape-of z size) s len) t d e (λ A ok. reading-writes A s len (data-test (shape-of z size) s len)) stands r;
+  writing = λ z size es s bytes d e t stands r. still-stands z size es (data-write (shape-of z size) s bytes) t d e (λ A ok. writing-writes A s (shape-of z size) bytes (ok s bytes)) stands r;
   flush = λ z size es d e t stands r. flush-stands z size es d e t stands (lifts (flushing finished) t d e r);
 }

@@ -244,4 +244,4 @@ dropping-stands z size es k d e stands less r =
           (cases-lt j high))
           (cases-lt j low);
     } in
-    record { listed = listed-take es k (omega arith) z size (stands .listed); sectors = λ t x has. subst (Standing (shape-of z size) kept t) (ap (λ y. image y t) (sym is) ∙ settled-single mid t x is has) (standing t) }
+    record { listed = listed-take es k (omega arith) z size (stands .listed); single = λ x has. settled-single mid 0 x is has; sectors = λ t x has. subst (Standing (shape-of z size) kept t) (ap (λ y. image y t) (sym is) ∙ settled-single mid t x is has) (standing t) }

@@ -175,4 +175,4 @@ entering-stands z size es x d e stands listed r =
     let all : (t : ℕ) → Between z size es x t (image e t) = λ t. run-within (Between z size es x) (storing-writes _ _ _ (entry-between z size es x)) (flushed-good (a .3)) between t _ (last-has (e .cells t)) in
     let read : image e (area-place (sectors size) (length es / 32)) ≡ pic (more es x) (length es / 32) = ap (λ y. image y (area-place (sectors size) (length es / 32))) (s .1) ∙ put-here (settled mid) _ _ (s .0) in
     let standing = resolved z size es x (image e) (more es x) (le-refl _) (λ k ne. (sym (pic-more es x k ne), refl)) read all in
-    record { listed = listed; sectors = λ t b has. subst (Standing (shape-of z size) (more es x) t) (settled-single (put (settled mid) (area-place (sectors size) (length es / 32)) (pic (more es x) (length es / 32)) (s .0)) t b (s .1) has) (standing t) }
+    record { listed = listed; single = λ b has. settled-single (put (settled mid) (area-place (sectors size) (length es / 32)) (pic (more es x) (length es / 32)) (s .0)) 0 b (s .1) has; sectors = λ t b has. subst (Standing (shape-of z size) (more es x) t) (settled-single (put (settled mid) (area-place (sectors size) (length es / 32)) (pic (more es x) (length es / 32)) (s .0)) t b (s .1) has) (standing t) }

@@ -61,7 +61,7 @@ making-stands z size d e shape r =
           let there : t ≡ area-start c 0 + q = at ∙ ap (λ i. area-start c i + q) none in
           put-elsewhere (settled mid) 0 (header true c) (s .0) t (λ is. not-header c k q l (sym at ∙ is)) ∙ ap (image mid) there ∙ zeros-read c (area-start c 0) (b .2) q l ∙ sym (pic-past [] (c * k + q) (omega arith));
     } in
-    record { listed = listed-none z size shape; sectors = λ t x has. subst (Standing (shape-of z size) [] t) (ap (λ y. image y t) (sym (s .1)) ∙ settled-single last t x (s .1) has) (standing t) }
+    record { listed = listed-none z size shape; single = λ x has. settled-single last 0 x (s .1) has; sectors = λ t x has. subst (Standing (shape-of z size) [] t) (ap (λ y. image y t) (sym (s .1)) ∙ settled-single last t x (s .1) has) (standing t) }
 
 -- BROKEN OFF
 

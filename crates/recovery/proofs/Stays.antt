@@ -202,6 +202,7 @@ opening-stands z size es d e low few same sure small r = found-then (opening-fin
         let done = cleans-well s x d e sure (λ q l. long (x .area) q (omega (arith, k .count)) l) (k .ends .bytes) (k .ends .inside) run in
         record {
           listed = record { shape = k .header .shape; sound = k .learnt .sound; fits = fits-all z size es (k .learnt .sound) low few };
+          single = λ b has. done .single 0 b has;
           sectors = λ t b has. subst (Standing s es t) (done .single t b has) (stand-at z size es x d e long narrow (k .learnt) (k .count) (k .ends) (k .header .valid) done t);
         }
 

@@ -38,10 +38,11 @@ pub record Listed (z : Sizes) (size : ChunkSize) (es : List Exception) : Type 0 
   pub sound : Sound (shape-of z size) es
   pub fits : All Fits es
 
--- a list stands on a device: whatever a power cut leaves, opening finds it
+-- a list stands on a device: whatever a power cut leaves, opening finds it; every sector of header and areas has one possibility
 pub record Stands (z : Sizes) (size : ChunkSize) (es : List Exception) (d : Disk) : Type 0 where
   pub listed : Listed z size es
   pub sectors : Within (Standing (shape-of z size) es) d
+  pub single : (b : Bytes) → Has (possibilities (d .cells 0)) b → d .cells 0 .latest ≡ b
 
 -- opening finds a list in an image
 abbrev pub Finds : Sizes → ChunkSize → List Exception → Image → Type 0
