@@ -1,7 +1,7 @@
 -- The possibilities at some places of a sector's list, and the places of some possibilities.
 use Rattle.std.proofs.Common.{◌≡◌, ℕ, zero, suc, ◌⊎◌, List, [], ◌∷◌, ◌++◌, map, length, get_or, sym, refl, ap, ◌∙◌, subst, ap₂, ⊎_elim}
 use lib.ListN.{get_or-eq_default}
-use Rattle.std.specs.List.{ContainsAt as Has, AllByRecursion as All}
+use Rattle.std.specs.List.{ContainsAt as Has, AllByRecursion}
 use Rattle.std.proofs.ByRecursion.{All-map, all-has, All-weaker, all_has_itself, has_get_or, has_append_left, has_push}
 use Rattle.std.proofs.lemmas.Bool.{cases_lt}
 use Rattle.device.specs.Disk.{Bytes, Cell, possibilities, at, kept, grown}
@@ -16,7 +16,7 @@ at_has c p =
     (λ h. subst (Has (possibilities c)) (sym (get_or-eq_default c.older c.latest h)) (last_has c))
     (cases_lt p (length c.older))
 
-each : {X : Type 0} (P : X → Type 0) → ((x : X) → P x) → (xs : List X) → All P xs
+each : {X : Type 0} (P : X → Type 0) → ((x : X) → P x) → (xs : List X) → AllByRecursion P xs
 each P h [] = tt
 each P h (x ∷ xs) = (h x, each P h xs)
 
@@ -34,7 +34,7 @@ get_d_push (x ∷ xs) d (suc k) = get_d_push xs d k
 pub place_of : (c : Cell) (b : Bytes) → Has (possibilities c) b → (p : ℕ) × (at c p ≡ b)
 place_of c b h = (h.0, get_d_push c.older c.latest h.0 ∙ h.2 c.latest)
 
-places_of_all : (c : Cell) (xs : List Bytes) → All (Has (possibilities c)) xs → (ps : List ℕ) × (kept c ps ≡ xs)
+places_of_all : (c : Cell) (xs : List Bytes) → AllByRecursion (Has (possibilities c)) xs → (ps : List ℕ) × (kept c ps ≡ xs)
 places_of_all c [] h = ([], refl)
 places_of_all c (x ∷ xs) h =
     let p = place_of c x h.0 in

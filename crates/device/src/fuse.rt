@@ -45,9 +45,9 @@ impl<D> FuseDevice<D> {
 }
 
 impl<D: Device> Device for FuseDevice<D> {
-    ghost disk = { λ x. fused (D.Device.disk x.inner) x.blown };
+    ghost disk = { λ x. fused (D.disk x.inner) x.blown };
 
-    ghost whole = { λ x. fused_whole _ x.blown (D.Device.whole x.inner) };
+    ghost whole = { λ x. fused_whole _ x.blown (D.whole x.inner) };
 
     fn sectors(&self) -> u32 {
         self.inner.sectors()
@@ -58,9 +58,9 @@ impl<D: Device> Device for FuseDevice<D> {
     }
 
     fn read(&mut self, sector: u32, buffer: &mut [u8]) -> Result<(), DeviceFault>
-        ensures call { Called (reads (length buffer.old) sector) (fused (D.Device.disk self.old.inner) self.old.blown) (told result buffer.new) (fused (D.Device.disk self.new.inner) self.new.blown) }
+        ensures call { Called (reads (length buffer.old) sector) (fused (D.disk self.old.inner) self.old.blown) (told result buffer.new) (fused (D.disk self.new.inner) self.new.blown) }
         ensures untouched { OnErr result (buffer.new ≡ buffer.old) }
-        ensures burnt { Burnt (reads (length buffer.old) sector) self.old.left self.old.blown (D.Device.disk self.old.inner) (told result buffer.new) self.new.left self.new.blown (D.Device.disk self.new.inner) }
+        ensures burnt { Burnt (reads (length buffer.old) sector) self.old.left self.old.blown (D.disk self.old.inner) (told result buffer.new) self.new.left self.new.blown (D.disk self.new.inner) }
     {
         if !self.blown {
             return self.inner.read(sector, buffer);
@@ -70,8 +70,8 @@ impl<D: Device> Device for FuseDevice<D> {
     }
 
     fn write(&mut self, sector: u32, bytes: &[u8]) -> Result<(), DeviceFault>
-        ensures call { Called (writes sector bytes.now) (fused (D.Device.disk self.old.inner) self.old.blown) (told result []) (fused (D.Device.disk self.new.inner) self.new.blown) }
-        ensures burnt { Burnt (writes sector bytes.now) self.old.left self.old.blown (D.Device.disk self.old.inner) (told result []) self.new.left self.new.blown (D.Device.disk self.new.inner) }
+        ensures call { Called (writes sector bytes.now) (fused (D.disk self.old.inner) self.old.blown) (told result []) (fused (D.disk self.new.inner) self.new.blown) }
+        ensures burnt { Burnt (writes sector bytes.now) self.old.left self.old.blown (D.disk self.old.inner) (told result []) self.new.left self.new.blown (D.disk self.new.inner) }
     {
         if !self.blown && self.left > 0 {
             self.inner.write(sector, bytes)?;
@@ -84,8 +84,8 @@ impl<D: Device> Device for FuseDevice<D> {
     }
 
     fn flush(&mut self) -> Result<(), DeviceFault>
-        ensures call { Called flushes (fused (D.Device.disk self.old.inner) self.old.blown) (told result []) (fused (D.Device.disk self.new.inner) self.new.blown) }
-        ensures burnt { Burnt flushes self.old.left self.old.blown (D.Device.disk self.old.inner) (told result []) self.new.left self.new.blown (D.Device.disk self.new.inner) }
+        ensures call { Called flushes (fused (D.disk self.old.inner) self.old.blown) (told result []) (fused (D.disk self.new.inner) self.new.blown) }
+        ensures burnt { Burnt flushes self.old.left self.old.blown (D.disk self.old.inner) (told result []) self.new.left self.new.blown (D.disk self.new.inner) }
     {
         if !self.blown && self.left > 0 {
             self.inner.flush()?;

@@ -1,4 +1,6 @@
 // Devices of 512-byte sectors: what each means, and two of them.
+#![tactic(auto)]
+
 mod checks;
 mod device;
 mod fault;

@@ -9,7 +9,7 @@ use crate::device::Device;
 use crate::fault::DeviceFault;
 
 fn write_blank<D: Device>(device: &mut D, sector: u32) -> Result<(), DeviceFault>
-    ensures { Called (writes sector (replicate 512 0)) (disk device.old) (told result []) (disk device.new) }
+    ensures { Called (writes sector (replicate 512 0)) (D.disk device.old) (told result []) (D.disk device.new) }
 {
     device.write(sector, &[0u8; SECTOR])
 }
@@ -22,7 +22,7 @@ fn write_part<D: Device>(
     i: usize,
 ) -> Result<(), DeviceFault>
     requires { 512 * i + 512 ≤ length bytes.now }
-    ensures { Called (writes sector (nth_part bytes.now i)) (disk device.old) (told result []) (disk device.new) }
+    ensures { Called (writes sector (nth_part bytes.now i)) (D.disk device.old) (told result []) (D.disk device.new) }
 {
     let at = SECTOR * i;
     device.write(sector, &bytes[at..at + SECTOR])
@@ -30,7 +30,7 @@ fn write_part<D: Device>(
 
 // Writes zeros over `n` sectors from `first` on.
 pub fn write_zeros<D: Device>(device: &mut D, first: u32, n: u32) -> Result<(), DeviceFault>
-    ensures { Runs one (zeroing first n) (disk device.old) (told result tt) (disk device.new) }
+    ensures { Runs one (zeroing first n) (D.disk device.old) (told result tt) (D.disk device.new) }
 {
     let mut sector = first;
     for _ in 0..n {
@@ -47,7 +47,7 @@ pub fn read_sectors<D: Device>(
     first: u32,
     buffer: &mut [u8],
 ) -> Result<(), DeviceFault>
-    ensures { Runs one (reading_into first buffer.old) (disk device.old) (record { answer = told result tt; buffer = buffer.new }) (disk device.new) }
+    ensures { Runs one (reading_into first buffer.old) (D.disk device.old) (record { answer = told result tt; buffer = buffer.new }) (D.disk device.new) }
 {
     if buffer.len() % SECTOR != 0 {
         return Err(DeviceFault::Length);
@@ -63,7 +63,7 @@ pub fn read_sectors<D: Device>(
 
 // Writes a buffer of whole sectors to those from `first` on.
 pub fn write_sectors<D: Device>(device: &mut D, first: u32, bytes: &[u8]) -> Result<(), DeviceFault>
-    ensures { Runs one (writing_from first bytes.now) (disk device.old) (told result tt) (disk device.new) }
+    ensures { Runs one (writing_from first bytes.now) (D.disk device.old) (told result tt) (D.disk device.new) }
 {
     if bytes.len() % SECTOR != 0 {
         return Err(DeviceFault::Length);

@@ -1,13 +1,13 @@
 // What is asked of a list of exceptions.
 ghost use Rattle.std.specs.Prelude.{◌≡◌, ◌+◌, ◌*◌, ◌^◌, ◌<◌, ◌≤◌, true, length};
 ghost use Rattle.layout.specs.Chunks.{sectors};
-ghost use Rattle.exceptions.specs.Table.{Below, news, largest as largest-new, past_area, next_place, has_room, follows as follows_on, linked as are-linked, last_run, metadata as metadata-sectors};
+ghost use Rattle.exceptions.specs.Table.{Below, news, largest as largest_new, past_area, next_place, has_room, follows as follows_on, linked as are_linked, last_run, metadata as metadata_sectors};
 
 use layout::{ChunkSize, Exception};
 
 // The largest new chunk, or 0 where there is none.
 fn largest(es: &[Exception]) -> u64
-    ensures { result ≡ largest-new es.now }
+    ensures { result ≡ largest_new es.now }
 {
     let mut best = 0;
     for e in es {
@@ -62,7 +62,7 @@ fn follows(a: Exception, b: Exception) -> bool
 // Whether the exceptions at `n` and `n + 1` are in one run.
 fn linked(es: &[Exception], n: usize, size: ChunkSize) -> bool
     requires { n + 1 < length es.now }
-    ensures { result ≡ are-linked (sectors size) es.now n }
+    ensures { result ≡ are_linked (sectors size) es.now n }
 {
     let per_area = size.entries_per_area() as usize;
     n / per_area == (n + 1) / per_area && follows(es[n], es[n + 1])
@@ -88,7 +88,7 @@ pub fn run_length(es: &[Exception], size: ChunkSize) -> usize
 // The sectors of the header and of the areas that `n` exceptions take.
 pub fn metadata_sectors(n: usize, size: ChunkSize) -> u64
     requires { n ≤ 2048 }
-    ensures { result ≡ metadata-sectors (sectors size) n }
+    ensures { result ≡ metadata_sectors (sectors size) n }
 {
     let c = u64::from(size.sectors());
     if n == 0 {

@@ -1,4 +1,6 @@
 // The exceptions of a store in memory, and the search by key that finds one.
+#![tactic(auto)]
+
 mod edges;
 mod figures;
 mod search;

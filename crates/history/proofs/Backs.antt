@@ -1,7 +1,7 @@
 -- Chunks copied back from the COW device to the origin.
 use Rattle.std.proofs.Common.{◌≡◌, ℕ, ◌+◌, ◌-◌, ◌*◌, ◌/◌, ◌%◌, ◌<◌, ◌≤◌, true, false, ltb, ◌⊎◌, List, [], ◌∷◌, ◌++◌, length, drop, Some, sym, refl, ap, ◌∙◌, subst, inl, inr, ⊎_elim, append_assoc, append-nil, mod-lt, div-add-mod', arith}
 use lib.Arith.{digits_div, digits_mod}
-use Rattle.std.specs.List.{ContainsAt as Has, AllByRecursion as All}
+use Rattle.std.specs.List.{ContainsAt as Has, AllByRecursion}
 use Rattle.std.proofs.ByRecursion.{All-from_get_or, All-drop}
 use Rattle.std.proofs.lemmas.Bool.{false≢true, cond-true, lt-ltb, or_left, or_right, or_cases, or_parts, eqb-true, eqb-false, eq-eqb, cases_eq}
 use Rattle.device.specs.Disk.{Bytes, Disk, possibilities, Told, good, refused}
@@ -193,7 +193,7 @@ module _ (p : Plain) (d : Disks) (v : p.void ≡ false) (up : Up p (serving p.ch
       λ i. then (old i) (λ b. then (cond-true (ltb k ((sizes d).origin / c)) (at_side origin (spreading (k * c) c b)) (done (refused (fault 2 3 0 k 0))) (lt-ltb _ _ here) i) (λ _. more))
 
   -- all of them
-  pub copies_back : (ks : List ℕ) (i : ℕ) (js : List ℕ) → All Known (placed (per_area c) i ks) → {m e : Disks} {t : Told Fault (Unit {0})} → Copied p js d m → Runs both (copying_back (ground d) p.chunk (placed (per_area c) i ks)) m t e → Copying p (js ++ ks) d t e
+  pub copies_back : (ks : List ℕ) (i : ℕ) (js : List ℕ) → AllByRecursion Known (placed (per_area c) i ks) → {m e : Disks} {t : Told Fault (Unit {0})} → Copied p js d m → Runs both (copying_back (ground d) p.chunk (placed (per_area c) i ks)) m t e → Copying p (js ++ ks) d t e
   copies_back [] i js known {m} {e} before r = copied_all (run_over r).0 (subst (Copied p (js ++ []) d) (sym (run_over r).1) (subst (λ l. Copied p l d m) (sym (append-nil js)) before))
   copies_back (k ∷ ks) i js known {m} {e} {t} before r =
       subst (λ l. Copying p l d t e) (append_assoc js (k ∷ []) ks)
@@ -217,5 +217,5 @@ module _ (p : Plain) (d : Disks) (v : p.void ≡ false) (up : Up p (serving p.ch
   run_back {t} {e} r =
       let n = length p.diverged - run_length p in
       let same : the_run c (table_of p) ≡ placed (per_area c) (0 + n) (drop n p.diverged) = ap (λ k. drop (k - run_length p) (table_of p)) (table_length p) ∙ sym (placed_drop (per_area c) 0 n p.diverged) in
-      let known : All Known (table_of p) = All-from_get_or Known (table_of p) nothing (item_lookup p.size p.chunk (table_of p) (up.covers.valid v).listed) in
-      copies_back (drop n p.diverged) (0 + n) [] (subst (All Known) (sym (placed_drop (per_area c) 0 n p.diverged)) (All-drop Known n (table_of p) known)) none_copied (subst (λ l. Runs both (copying_back (ground d) p.chunk l) d t e) same r)
+      let known : AllByRecursion Known (table_of p) = All-from_get_or Known (table_of p) nothing (item_lookup p.size p.chunk (table_of p) (up.covers.valid v).listed) in
+      copies_back (drop n p.diverged) (0 + n) [] (subst (AllByRecursion Known) (sym (placed_drop (per_area c) 0 n p.diverged)) (All-drop Known n (table_of p) known)) none_copied (subst (λ l. Runs both (copying_back (ground d) p.chunk l) d t e) same r)

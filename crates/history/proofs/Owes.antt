@@ -1,6 +1,6 @@
 -- What a call does to the view, and to what the view is owed and may show.
 use Rattle.std.proofs.Common.{◌≡◌, ℕ, zero, suc, ◌<◌, Bool, true, false, cond, ◌&&◌, ◌||◌, eqb, ◌⊎◌, List, [], ◌∷◌, length, get_or, sym, refl, ap, subst, inl, inr, ⊎_elim, arith}
-use Rattle.std.specs.List.{ContainsAt as Has, AllByRecursion as All}
+use Rattle.std.specs.List.{ContainsAt as Has, AllByRecursion}
 use Rattle.std.proofs.ByRecursion.{All-map, all-has, has_push_cases}
 use Rattle.std.proofs.lemmas.Bool.{cases_eq, both_ways, eq-eqb, ne_eqb, eqb-true, and_from, not_from_false, cond-true, cond-false, cond_both}
 use Rattle.device.specs.Disk.{Bytes, Cell, possibilities}
@@ -128,22 +128,22 @@ comes_performed p (step_merge w) = comes_merged p _ _ _
 comes_performed p leave_merge = comes_same p _
 comes_performed p (reopen w) = comes_same p _
 
-all_of : {X : Type 0} (P : X → Type 0) → ((x : X) → P x) → (xs : List X) → All P xs
+all_of : {X : Type 0} (P : X → Type 0) → ((x : X) → P x) → (xs : List X) → AllByRecursion P xs
 all_of P h [] = tt
 all_of P h (x ∷ xs) = (h x, all_of P h xs)
 
 -- what a call under way may come to
-broken_all : (p : Plain) (c : Call) → All (Comes p (kind c)) (broken_off p c)
+broken_all : (p : Plain) (c : Call) → AllByRecursion (Comes p (kind c)) (broken_off p c)
 broken_all p ask_status = (comes_same p _, tt)
 broken_all p ask_merge = (comes_same p _, tt)
 broken_all p (read_origin s n) = (comes_same p _, tt)
 broken_all p (read_view s n) = (comes_same p _, tt)
 broken_all p (write_origin s b w) =
-    cond_both (p.void || diverged_at p s) _ _ (All (Comes p (writes_origin s)))
+    cond_both (p.void || diverged_at p s) _ _ (AllByRecursion (Comes p (writes_origin s)))
     (λ _. (onto_origin p _ (perhaps b) s p (comes_same p _), tt))
     (λ _. (comes_same p _, (onto_origin p _ (perhaps b) s (ready p s) (comes_ready p s), tt)))
 broken_all p (write_snapshot s b w) =
-    cond_both (diverged_at p s) _ _ (All (Comes p (writes_view s b)))
+    cond_both (diverged_at p s) _ _ (AllByRecursion (Comes p (writes_view s b)))
     (λ _. (onto_view p s b (perhaps b) (perhaps_gains b) p (comes_same p _), tt))
     (λ _. (comes_same p _, (onto_view p s b (perhaps b) (perhaps_gains b) (diverge p s) (comes_diverged p _ s), tt)))
 broken_all p (write_merging s b) = (onto_both p s b (perhaps b) (perhaps_gains b), tt)

@@ -1,6 +1,6 @@
 -- What the tests before a call say: by their refusals, by passing, and of the run that follows.
 use Rattle.std.proofs.Common.{◌≡◌, ℕ, Bool, true, false, eqb, List, [], ◌∷◌, length, Some, None, Option, sym, refl, ap, ◌∙◌, subst, arith}
-use Rattle.std.specs.List.{AllByRecursion as All}
+use Rattle.std.specs.List.{AllByRecursion}
 use Rattle.std.proofs.lemmas.Bool.{both_ways, not-false, cond-false}
 use Rattle.device.specs.Disk.{refused}
 use Rattle.device.specs.Plans.{Disks, Side, Plan, Runs, both}
@@ -12,7 +12,7 @@ use Rattle.history.specs.History.{Situation, Call, ask_status, ask_merge, read_o
 -- TESTS
 
 -- what each test says, the first refusal says
-first_all : (P : Option Fault → Type 0) → P None → (ts : List (Option Fault)) → All P ts → P (first ts)
+first_all : (P : Option Fault → Type 0) → P None → (ts : List (Option Fault)) → AllByRecursion P ts → P (first ts)
 first_all P none [] h = none
 first_all P none (None ∷ ts) h = first_all P none ts h.1
 first_all P none (Some f ∷ ts) h = h.0
@@ -21,7 +21,7 @@ never_some : {X : Type 0} {f : Fault} → ◌≡◌ {A = Option Fault} None (Som
 never_some h = absurd (let z : ◌≡◌ {A = ℕ} 0 1 = cc in omega arith)
 
 -- where no test refuses, each passes
-pub passed : (ts : List (Option Fault)) → first ts ≡ None → All (λ t. t ≡ None) ts
+pub passed : (ts : List (Option Fault)) → first ts ≡ None → AllByRecursion (λ t. t ≡ None) ts
 passed [] h = tt
 passed (None ∷ ts) h = (refl, passed ts h)
 passed (Some f ∷ ts) h = never_some (sym h)
@@ -63,7 +63,7 @@ refusal_first g m mode leave_merge = refl
 refusal_first g m mode (reopen w) = refl
 
 -- a call that no test refuses passes each
-pub each_passed : (g : Ground) (m : Memory) (mode : Mode) (c : Call) → refusal g m mode c ≡ None → All (λ t. t ≡ None) (tests_of g m mode c)
+pub each_passed : (g : Ground) (m : Memory) (mode : Mode) (c : Call) → refusal g m mode c ≡ None → AllByRecursion (λ t. t ≡ None) (tests_of g m mode c)
 each_passed g m mode c is = passed (tests_of g m mode c) (sym (refusal_first g m mode c) ∙ is)
 
 -- no test refuses with the number of a device that is gone; and with that of an invalid store only where the pair remembers it
@@ -98,10 +98,10 @@ module _ (g : Ground) (m : Memory) where
   place_tells : (s : ℕ) → Tells m (on_origin g s)
   place_tells s = other m _ (fault 2 3 0 s 0) refl refl
 
-  view_tells : (s : ℕ) → All (Tells m) (view_tests g m s)
+  view_tells : (s : ℕ) → AllByRecursion (Tells m) (view_tests g m s)
   view_tells s = (stopped_tells, (opened_tells, (six m, (place_tells s, tt))))
 
-  all_tell : (mode : Mode) (c : Call) → All (Tells m) (tests_of g m mode c)
+  all_tell : (mode : Mode) (c : Call) → AllByRecursion (Tells m) (tests_of g m mode c)
   all_tell mode ask_status = tt
   all_tell mode ask_merge = (stopped_tells, (opened_tells, (six m, tt)))
   all_tell mode (read_origin s n) = (length_tells n, (stopped_tells, (opened_tells, (place_tells s, tt))))

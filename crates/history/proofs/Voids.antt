@@ -1,6 +1,6 @@
 -- When a view is void: what the answers say of it, and what an origin write that finds the store full does.
 use Rattle.std.proofs.Common.{◌≡◌, ℕ, ◌/◌, Bool, true, false, cond, not, ◌||◌, T, eqb, is_some, Some, None, Option, sym, refl, ap, ◌∙◌, subst, ⊎_elim, arith}
-use Rattle.std.specs.List.{AllByRecursion as All}
+use Rattle.std.specs.List.{AllByRecursion}
 use Rattle.std.proofs.lemmas.Bool.{cases_Bool, both_ways, not-true, not_from_false, and_parts, and_from, eqb-true, ne_eqb, cond-true, cond-false}
 use Rattle.device.specs.Disk.{good, refused}
 use Rattle.layout.specs.Chunks.{sectors}
@@ -69,7 +69,7 @@ served m c r (told e) = go (refusal (ground_of m) (memory_of m) m.mode c) refl e
     go None is e = record { passes = is; says = e }
     go (Some f) is e = never_good e
 
-pub tests : (m : Machine) (c : Call) (r : Reply) → Served m c r → All (λ t. t ≡ None) (tests_of (ground_of m) (memory_of m) m.mode c)
+pub tests : (m : Machine) (c : Call) (r : Reply) → Served m c r → AllByRecursion (λ t. t ≡ None) (tests_of (ground_of m) (memory_of m) m.mode c)
 tests m c r x = each_passed (ground_of m) (memory_of m) m.mode c x.passes
 
 seven_void : (m : Machine) (f : Fault) (k : ℕ) → ◌≡◌ {A = Answer} (refused (store_fault 7 k 0)) (refused f) → eqb f.number 6 ≡ true → m.plain.void ≡ true

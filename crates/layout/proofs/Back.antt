@@ -1,7 +1,7 @@
 -- What was written is read back.
 use Rattle.std.proofs.Common.{◌≡◌, ℕ, zero, suc, ◌+◌, ◌-◌, ◌*◌, ◌/◌, ◌%◌, ◌^◌, ◌<◌, ◌≤◌, true, false, List, [], ◌∷◌, ◌++◌, length, get_or, take, drop, replicate, sym, refl, ap, ◌∙◌, ap₂, append_assoc, pow-suc, arith, take-append-drop}
 use lib.Seq.{drop-append-add}
-use Rattle.std.specs.List.{between, flat_map, AllByRecursion as All}
+use Rattle.std.specs.List.{between, flat_map, AllByRecursion}
 use Rattle.std.proofs.lemmas.List.{drop_at, drop_more, length-take, length-take-le, length-append, length-replicate, drop-replicate, take-replicate, replicate-append-replicate, get_or-take, get_or-drop}
 use Rattle.std.proofs.ByRecursion.{All-get_or, All-take, All-drop}
 use Rattle.std.proofs.lemmas.Nat.{div_below}
@@ -16,7 +16,7 @@ pub value_le : (w n : ℕ) → n < 256 ^ w → value (le w n) ≡ n
 value_le zero n h = omega arith
 value_le (suc w) n h = let less : n / 256 < 256 ^ w = div_below n 256 (256 ^ w) (omega arith) (rw pow-suc at h) in let back = value_le w (n / 256) less in omega arith
 
-pub le_value : (bs : List ℕ) → All (λ b. b < 256) bs → le (length bs) (value bs) ≡ bs
+pub le_value : (bs : List ℕ) → AllByRecursion (λ b. b < 256) bs → le (length bs) (value bs) ≡ bs
 le_value [] h = refl
 le_value (b ∷ bs) h =
     let low : (b + 256 * value bs) % 256 ≡ b = omega (arith, h.0) in
@@ -61,7 +61,7 @@ long part k h = length_entries (take k part) ∙ ap (λ n. 16 * n) (length-take-
 pub read_back : ReadBack
 read_back = record { number = value_le; bytes = le_value; here = here; past = past }
   where
-    here : (es : List Exception) (j k : ℕ) (d : Exception) → All Fits es → k < length (take 32 (drop (32 * j) es)) → entry_from (pic es j) (16 * k) ≡ get_or es (32 * j + k) d
+    here : (es : List Exception) (j k : ℕ) (d : Exception) → AllByRecursion Fits es → k < length (take 32 (drop (32 * j) es)) → entry_from (pic es j) (16 * k) ≡ get_or es (32 * j + k) d
     here es j k d fit h =
         let part = take 32 (drop (32 * j) es) in
         let few : k < 32 = omega (arith, length-take 32 (drop (32 * j) es)) in

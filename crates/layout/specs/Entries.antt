@@ -1,6 +1,6 @@
 -- Entries of 16 bytes, 32 to a sector.
 use Rattle.std.specs.Prelude.{◌≡◌, ℕ, ◌+◌, ◌-◌, ◌*◌, ◌^◌, ◌<◌, ◌≤◌, cond, List, ◌++◌, length, take, drop, replicate, nat_le, slice_index_or}
-use Rattle.std.specs.List.{between, flat_map, AllByRecursion as All}
+use Rattle.std.specs.List.{between, flat_map, AllByRecursion}
 use Rattle.device.specs.Disk.{Bytes}
 use Rattle.layout.specs.declared.exception.Exception.{Exception}
 use Rattle.layout.specs.Numbers.{le, value}
@@ -38,6 +38,6 @@ pub record Fits (x : Exception) : Type 0 where
 -- an entry that was written is read back, and past the entries nothing is read
 pub record ReadBack : Type 0 where
   pub number : (w n : ℕ) → n < 256 ^ w → value (le w n) ≡ n
-  pub bytes : (b : Bytes) → All (λ x. x < 256) b → le (length b) (value b) ≡ b
-  pub here : (es : List Exception) (j k : ℕ) (d : Exception) → All Fits es → k < length (take 32 (drop (32 * j) es)) → entry_from (pic es j) (16 * k) ≡ slice_index_or es (32 * j + k) d
+  pub bytes : (b : Bytes) → AllByRecursion (λ x. x < 256) b → le (length b) (value b) ≡ b
+  pub here : (es : List Exception) (j k : ℕ) (d : Exception) → AllByRecursion Fits es → k < length (take 32 (drop (32 * j) es)) → entry_from (pic es j) (16 * k) ≡ slice_index_or es (32 * j + k) d
   pub past : (es : List Exception) (j k : ℕ) → length (take 32 (drop (32 * j) es)) ≤ k → k < 32 → entry_from (pic es j) (16 * k) ≡ nothing

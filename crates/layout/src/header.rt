@@ -1,7 +1,7 @@
 // The first sector of the COW device.
 ghost use Rattle.std.specs.Prelude.{◌≡◌};
 ghost use Rattle.layout.specs.Chunks.{sectors};
-ghost use Rattle.layout.specs.Headers.{flag, header as header-bytes, header_read, told, HeaderBack};
+ghost use Rattle.layout.specs.Headers.{flag, header as header_bytes, header_read, told, HeaderBack};
 
 use crate::chunk::ChunkSize;
 use crate::number::{four_bytes, word_at};
@@ -35,7 +35,7 @@ fn flag_of(valid: bool) -> u32
 }
 
 pub fn encode_header(header: Header) -> [u8; 512]
-    ensures { result ≡ header-bytes header.valid (sectors header.size) }
+    ensures { result ≡ header_bytes header.valid (sectors header.size) }
 {
     let mut out = [0u8; 512];
     out[..4].copy_from_slice(MAGIC);

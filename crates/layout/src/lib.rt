@@ -1,4 +1,6 @@
 // The bytes of a store on its COW device: chunks, the header, areas of entries.
+#![tactic(auto)]
+
 mod area;
 mod chunk;
 mod exception;

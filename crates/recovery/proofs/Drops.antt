@@ -1,6 +1,6 @@
 -- Dropping the end of a list, wherever it breaks off.
 use Rattle.std.proofs.Common.{◌≡◌, ℕ, zero, suc, ◌+◌, ◌-◌, ◌*◌, ◌/◌, ◌%◌, ◌<◌, ◌≤◌, max, true, ◌⊎◌, List, [], length, get_or, take, drop, sym, refl, ap, ◌∙◌, subst, inl, inr, ⊎_elim, le_refl, mod-lt, mul_assoc, arith, length-drop, length-take}
-use Rattle.std.specs.List.{AllByRecursion as All}
+use Rattle.std.specs.List.{AllByRecursion}
 use Rattle.std.proofs.ByRecursion.{All-take}
 use Rattle.std.proofs.lemmas.List.{take_all}
 use Rattle.std.proofs.lemmas.Bool.{cases_eq, cases_lt}
@@ -101,7 +101,7 @@ module _ (z : Sizes) (size : ChunkSize) (es : List Exception) (k : ℕ) where
       in_sector =
           entry_in_area (shape_of z size) m a (λ q l. sector_long a q l le) i inside ∙ ap (λ t. entry_from (m t) (16 * (i % 32))) (placed_at (sectors size) a (i / 32) _ (omega arith) refl)
 
-      reads_as : (list : List Exception) → All Fits list → m (area_place (sectors size) (sectors size * a + i / 32)) ≡ pic list (sectors size * a + i / 32) → per_area (sectors size) * a + i < length list → nth_entry (area_bytes (shape_of z size) m a) i ≡ get_or list (per_area (sectors size) * a + i) nothing
+      reads_as : (list : List Exception) → AllByRecursion Fits list → m (area_place (sectors size) (sectors size * a + i / 32)) ≡ pic list (sectors size * a + i / 32) → per_area (sectors size) * a + i < length list → nth_entry (area_bytes (shape_of z size) m a) i ≡ get_or list (per_area (sectors size) * a + i) nothing
       reads_as list fits is h =
           let f = flat in
           let lt : i % 32 < length (take 32 (drop (32 * (sectors size * a + i / 32)) list)) = simp (length-take, length-drop) (omega arith) in

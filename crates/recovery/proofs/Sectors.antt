@@ -1,7 +1,7 @@
 -- A sector whose entries are those of a list, with zeros after them, is the list's picture.
 use Rattle.std.proofs.Common.{◌≡◌, ℕ, zero, suc, ◌+◌, ◌-◌, ◌*◌, ◌<◌, ◌≤◌, Bool, true, false, ◌&&◌, eqb, List, [], ◌∷◌, ◌++◌, length, get_or, take, drop, replicate, sym, refl, ap, ◌∙◌, subst, ap₂, ⊎_elim, append_assoc, append-nil, arith, length-drop, take-append-drop, length-take, take-take, drop-drop, take-add}
 use lib.Seq.{take-append-le, drop-append-le}
-use Rattle.std.specs.List.{between, flat_map, AllByRecursion as All}
+use Rattle.std.specs.List.{between, flat_map, AllByRecursion}
 use Rattle.std.proofs.ByRecursion.{All-take, All-drop}
 use Rattle.std.proofs.lemmas.List.{length-take-le, get_or-take, get_or-drop}
 use Rattle.std.proofs.lemmas.Bool.{and_parts, eqb-true}
@@ -14,7 +14,7 @@ use Rattle.layout.proofs.Made.{length_entries}
 use Rattle.store.specs.Image.{all_zero}
 
 abbrev pub Small : Bytes → Type 0
-Small b = All (λ x. x < 256) b
+Small b = AllByRecursion (λ x. x < 256) b
 
 -- eight bytes that read as a number are that number's
 number_bytes : (b : Bytes) (i n : ℕ) → Small b → i + 8 ≤ length b → value (between i (i + 8) b) ≡ n → take 8 (drop i b) ≡ le 8 n

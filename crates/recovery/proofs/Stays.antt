@@ -1,7 +1,7 @@
 -- After a good opening the list stands.
 use Rattle.std.proofs.Common.{◌≡◌, ℕ, zero, suc, ◌+◌, ◌-◌, ◌*◌, ◌/◌, ◌%◌, ◌^◌, ◌<◌, ◌≤◌, Bool, true, false, cond, not, ltb, leb, List, [], ◌∷◌, ◌++◌, length, get_or, take, drop, replicate, sym, refl, ap, ◌∙◌, subst, ap₂, ⊎_elim, mul-le-mul_right, mod-lt, mul_assoc, mul_comm, mul-le-mul_left, mul-one, mul-add, div-le_self, arith, length-drop, take-append-drop, take_all, drop-drop}
 use native.Mathlib.Nat.{div-add-mod}
-use Rattle.std.specs.List.{ContainsAt as Has, AllByRecursion as All}
+use Rattle.std.specs.List.{ContainsAt as Has, AllByRecursion}
 use Rattle.std.proofs.ByRecursion.{All-more}
 use Rattle.std.proofs.lemmas.Bool.{cases_Bool, cases_lt, or_parts, and_parts, not-false, leb-false, ltb-true, cond-true, cond-false}
 use Rattle.device.specs.Disk.{Bytes, Disk, Fate, possibilities, writes, settled, good}
@@ -122,12 +122,12 @@ module _ (z : Sizes) (size : ChunkSize) (es : List Exception) (sound : Sound (sh
         new = omega (arith, ltb-true _ _ (and_parts (is_data (sectors size) x.new) _ on).1, div-le_self z.cow (sectors size));
       }
 
-  fits_first : (i : ℕ) → i ≤ length es → All Fits (take i es)
+  fits_first : (i : ℕ) → i ≤ length es → AllByRecursion Fits (take i es)
   fits_first zero h = tt
-  fits_first (suc i) h = subst (λ n. All Fits (take n es)) (let z : i + 1 ≡ suc i = omega arith in z) (All-more Fits es i nothing (omega arith) (fits_first i (omega arith)) (fits_at i (omega arith)))
+  fits_first (suc i) h = subst (λ n. AllByRecursion Fits (take n es)) (let z : i + 1 ≡ suc i = omega arith in z) (All-more Fits es i nothing (omega arith) (fits_first i (omega arith)) (fits_at i (omega arith)))
 
-  fits_all : All Fits es
-  fits_all = subst (All Fits) (take_all (length es) es (omega arith)) (fits_first (length es) (omega arith))
+  fits_all : AllByRecursion Fits es
+  fits_all = subst (AllByRecursion Fits) (take_all (length es) es (omega arith)) (fits_first (length es) (omega arith))
 
 -- THE LIST STANDS
 

@@ -1,6 +1,6 @@
 -- Sectors that hold a list of exceptions.
 use Rattle.std.specs.Prelude.{◌≡◌, ℕ, ◌+◌, ◌*◌, ◌<◌, ◌≤◌, false, List, [], length, get_or, take, ◌≢◌, slice_index_or}
-use Rattle.std.specs.List.{AllByRecursion as All}
+use Rattle.std.specs.List.{AllByRecursion}
 use Rattle.device.specs.Disk.{Bytes, good}
 use Rattle.layout.specs.declared.exception.Exception.{Exception}
 use Rattle.layout.specs.Chunks.{per_area, area_start}
@@ -40,4 +40,4 @@ pub record Pictured (s : Shape) (m : Image) (es : List Exception) : Type 0 where
 
 -- pictures hold their list
 abbrev pub PicturesHold : Type 0
-PicturesHold = (s : Shape) (m : Image) (es : List Exception) → All Fits es → Pictured s m es → Holds s m es
+PicturesHold = (s : Shape) (m : Image) (es : List Exception) → AllByRecursion Fits es → Pictured s m es → Holds s m es

@@ -1,6 +1,6 @@
 -- A list of exceptions that stands on a device, and what a power cut in the middle of a call leaves of it.
 use Rattle.std.specs.Prelude.{◌≡◌, ℕ, ◌+◌, ◌*◌, ◌<◌, ◌≤◌, true, ◌⊎◌, List, [], ◌∷◌, ◌++◌, length}
-use Rattle.std.specs.List.{ContainsAt as Has, AllByRecursion as All}
+use Rattle.std.specs.List.{ContainsAt as Has, AllByRecursion}
 use Rattle.device.specs.Disk.{Bytes, possibilities, Disk, good}
 use Rattle.layout.specs.declared.chunk.ChunkSize.{ChunkSize}
 use Rattle.layout.specs.declared.exception.Exception.{Exception}
@@ -31,7 +31,7 @@ pub record Standing (s : Shape) (es : List Exception) (at : ℕ) (b : Bytes) : T
 pub record Listed (z : Sizes) (size : ChunkSize) (es : List Exception) : Type 0 where
   pub shape : well_shaped z (sectors size) ≡ true
   pub sound : Sound (shape_of z size) es
-  pub fits : All Fits es
+  pub fits : AllByRecursion Fits es
 
 -- a list stands on a device: whatever a power cut leaves, opening finds it; every sector of header and areas has one possibility
 pub record Stands (z : Sizes) (size : ChunkSize) (es : List Exception) (d : Disk) : Type 0 where
@@ -45,7 +45,7 @@ Finds z size es m = found z m ≡ good (record { size = size; table = es })
 
 -- the sectors of the areas, up to the one where a list ends, hold bytes
 abbrev pub Legible : ChunkSize → List Exception → Image → Type 0
-Legible size es m = (a q : ℕ) → q < sectors size → per_area (sectors size) * a ≤ length es → All (λ b. b < 256) (m (area_start (sectors size) a + q))
+Legible size es m = (a q : ℕ) → q < sectors size → per_area (sectors size) * a ≤ length es → AllByRecursion (λ b. b < 256) (m (area_start (sectors size) a + q))
 
 -- opening finds a list in an image, in sectors that hold bytes
 pub record Lies (z : Sizes) (size : ChunkSize) (es : List Exception) (m : Image) : Type 0 where

@@ -1,5 +1,7 @@
 // What a power cut leaves of a store, and what opening finds then. This crate is theory: its
 // functions have no code, and their contracts name the theorems.
+#![tactic(auto)]
+
 ghost use Rattle.recovery.specs.Breaks.{CutSure, DroppingBreaks, DroppingStands, EnteringBreaks, EnteringListed, EnteringOrder, EnteringStands, MakingBreaks, MakingStands, OpeningBreaks, OpeningStanding, OpeningStands, SpoilingBreaks};
 ghost use Rattle.recovery.specs.Calls.{DropBreaks, DropStands, EnterBreaks, EnterStands, MakeBreaks, MakeStands, SpoilBreaks, SpoilStays};
 ghost use Rattle.recovery.specs.Data.{CallsKeepData, DataCallsKeepList};

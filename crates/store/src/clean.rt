@@ -33,7 +33,7 @@ fn clear_from(bytes: &mut [u8], place: u32)
 
 // Writes a buffer of whole sectors and makes them last.
 fn write_lasting<D: Device>(device: &mut D, first: u32, bytes: &[u8]) -> Result<(), DeviceFault>
-    ensures { Runs one (then (writing_from first bytes.now) (λ _. flushing finished)) (disk device.old) (told result tt) (disk device.new) }
+    ensures { Runs one (then (writing_from first bytes.now) (λ _. flushing finished)) (D.disk device.old) (told result tt) (D.disk device.new) }
 {
     write_sectors(device, first, bytes)?;
     device.flush()?;
@@ -48,7 +48,7 @@ pub fn clean<D: Device>(
     bytes: &mut [u8],
 ) -> Result<(), DeviceFault>
     requires { (length bytes.old ≡ 512 * sectors size) × ((end.place < per_area (sectors size)) × (end.area < 65)) }
-    ensures { Runs one (cleaning (sectors size) (ending [] end.area end.place bytes.old)) (disk device.old) (told result tt) (disk device.new) }
+    ensures { Runs one (cleaning (sectors size) (ending [] end.area end.place bytes.old)) (D.disk device.old) (told result tt) (D.disk device.new) }
 {
     let at = 16 * end.place as usize;
     if is_zero(&bytes[at..]) {

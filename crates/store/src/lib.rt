@@ -1,4 +1,6 @@
 // The exception store on the COW device.
+#![tactic(auto)]
+
 mod clean;
 mod fault;
 mod open;

@@ -31,7 +31,7 @@ fn judge_header(header: Header, origin: u32, cow: u32) -> Result<ChunkSize, Stor
 
 // The size of chunks by the header, over an origin of so many sectors.
 pub fn read_header<D: Device>(device: &mut D, origin: u32) -> Result<ChunkSize, StoreFault>
-    ensures { Runs one (heading (record { origin = origin; cow = (disk device.old).count })) (disk device.old) (gave result) (disk device.new) }
+    ensures { Runs one (heading (record { origin = origin; cow = (D.disk device.old).count })) (D.disk device.old) (gave result) (D.disk device.new) }
 {
     let cow = device.sectors();
     let mut sector = [0u8; 512];
@@ -48,7 +48,7 @@ pub fn load<D: Device>(
     bytes: &mut [u8],
 ) -> Result<(), StoreFault>
     requires { (length bytes.old ≡ 512 * width shape) × (table.old.items.items ≡ []) }
-    ensures { Runs one (loading shape) (disk device.old) (told result table.new.items.items) (disk device.new) }
+    ensures { Runs one (loading shape) (D.disk device.old) (told result table.new.items.items) (D.disk device.new) }
 {
     let end = scan(device, table, shape, bytes)?;
     clean(device, shape.size, end, bytes)?;

@@ -29,7 +29,7 @@ pub fn scan<D: Device>(
     bytes: &mut [u8],
 ) -> Result<End, StoreFault>
     requires { (length bytes.old ≡ 512 * width shape) × (table.old.items.items ≡ []) }
-    ensures call { Runs one (scanning shape most_areas 0 []) (disk device.old) (told_end result table.new.items.items bytes.new) (disk device.new) }
+    ensures call { Runs one (scanning shape most_areas 0 []) (D.disk device.old) (told_end result table.new.items.items bytes.new) (D.disk device.new) }
     ensures within { IfOk result (λ e. (e.place < per_area (width shape)) × (e.area < 65)) }
 {
     let per_area = shape.size.entries_per_area();

@@ -12,7 +12,7 @@ use layout::{ChunkSize, Exception, Header, encode_header, picture};
 
 // Writes a sector and makes it last.
 fn store_sector<D: Device>(device: &mut D, sector: u32, bytes: &[u8]) -> Result<(), DeviceFault>
-    ensures { Runs one (storing sector bytes.now) (disk device.old) (told result tt) (disk device.new) }
+    ensures { Runs one (storing sector bytes.now) (D.disk device.old) (told result tt) (D.disk device.new) }
 {
     device.write(sector, bytes)?;
     device.flush()?;
@@ -21,7 +21,7 @@ fn store_sector<D: Device>(device: &mut D, sector: u32, bytes: &[u8]) -> Result<
 
 // An empty store: the old header goes first, and the new one comes last.
 pub fn make<D: Device>(device: &mut D, size: ChunkSize) -> Result<(), DeviceFault>
-    ensures { Runs one (making (sectors size)) (disk device.old) (told result tt) (disk device.new) }
+    ensures { Runs one (making (sectors size)) (D.disk device.old) (told result tt) (D.disk device.new) }
 {
     device.write(0, &[0u8; 512])?;
     device.flush()?;
@@ -32,7 +32,7 @@ pub fn make<D: Device>(device: &mut D, size: ChunkSize) -> Result<(), DeviceFaul
 
 // The header says from now on that the snapshot is invalid.
 pub fn spoil<D: Device>(device: &mut D, size: ChunkSize) -> Result<(), DeviceFault>
-    ensures { Runs one (spoiling (sectors size)) (disk device.old) (told result tt) (disk device.new) }
+    ensures { Runs one (spoiling (sectors size)) (D.disk device.old) (told result tt) (D.disk device.new) }
 {
     store_sector(device, 0, &encode_header(Header { valid: false, size }))
 }
@@ -48,7 +48,7 @@ fn area_place(size: ChunkSize, j: u32) -> u32
 // Zeros over the next area where exception number `n` fills its own.
 fn prepare<D: Device>(device: &mut D, size: ChunkSize, n: u32) -> Result<(), DeviceFault>
     requires { n < 2048 }
-    ensures { Runs one (preparing (fills_area (sectors size) n) (sectors size) (n / per_area (sectors size) + 1)) (disk device.old) (told result tt) (disk device.new) }
+    ensures { Runs one (preparing (fills_area (sectors size) n) (sectors size) (n / per_area (sectors size) + 1)) (D.disk device.old) (told result tt) (D.disk device.new) }
 {
     let per_area = size.entries_per_area();
     if n % per_area == per_area - 1 {
@@ -66,7 +66,7 @@ pub fn enter_last<D: Device>(
     n: u32,
 ) -> Result<(), DeviceFault>
     requires { n < 2048 }
-    ensures { Runs one (entering (sectors size) list.now n) (disk device.old) (told result tt) (disk device.new) }
+    ensures { Runs one (entering (sectors size) list.now n) (D.disk device.old) (told result tt) (D.disk device.new) }
 {
     prepare(device, size, n)?;
     device.flush()?;
@@ -81,7 +81,7 @@ pub fn drop_to<D: Device>(
     n: u32,
 ) -> Result<(), DeviceFault>
     requires { (length kept.now < n) × (n ≤ 2048) }
-    ensures { Runs one (dropping (sectors size) kept.now n) (disk device.old) (told result tt) (disk device.new) }
+    ensures { Runs one (dropping (sectors size) kept.now n) (D.disk device.old) (told result tt) (D.disk device.new) }
 {
     let low = (kept.len() / 32) as u32;
     let high = (n - 1) / 32 + 1;

@@ -1,7 +1,7 @@
 // The numbers of a store that stay, and which entries fit them.
 ghost use Rattle.std.specs.Prelude.{◌≡◌, ◌^◌, ◌<◌, false};
 ghost use Rattle.layout.specs.Chunks.{sectors, area_start};
-ghost use Rattle.store.specs.Judge.{on_data as is-on-data, damaged};
+ghost use Rattle.store.specs.Judge.{on_data as is_on_data, damaged};
 
 use exceptions::ExceptionTable;
 use layout::{ChunkSize, Exception};
@@ -17,7 +17,7 @@ pub struct Shape {
 impl Shape {
     // Whether a chunk is for data and on the COW device.
     pub fn on_data(self, chunk: u64) -> bool
-        ensures { result ≡ is-on-data self chunk }
+        ensures { result ≡ is_on_data self chunk }
     {
         self.size.is_data(chunk) && chunk < u64::from(self.chunks)
     }

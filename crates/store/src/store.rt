@@ -4,11 +4,11 @@ ghost use Rattle.device.specs.Disk.{good, refused};
 ghost use Rattle.device.specs.Plans.{Runs, one, lifted};
 ghost use Rattle.layout.specs.Chunks.{sectors};
 ghost use Rattle.layout.specs.declared.chunk.ChunkSize.TheVariants.{One as Smallest};
-ghost use Rattle.exceptions.specs.Table.{entries_at_most, lookup as found-copy, room, last_run, allocated, metadata};
+ghost use Rattle.exceptions.specs.Table.{entries_at_most, lookup as found_copy, room, last_run, allocated, metadata};
 ghost use Rattle.store.specs.Answers.{told, gave};
 ghost use Rattle.store.specs.Judge.{on_data};
 ghost use Rattle.store.specs.Refusals.{because, up};
-ghost use Rattle.store.specs.Steps.{shape_heading, opening, finished, flushing, making, spoiling, shaped, enter as entering-chunk, drop_run, data_test, data_read, data_write, copy_read, copy_write, chunk_read, chunk_write};
+ghost use Rattle.store.specs.Steps.{shape_heading, opening, finished, flushing, making, spoiling, shaped, enter as entering_chunk, drop_run, data_test, data_read, data_write, copy_read, copy_write, chunk_read, chunk_write};
 
 use crate::fault::StoreFault;
 use crate::open::{load, read_header};
@@ -51,7 +51,7 @@ impl<C: Device> Store<C> {
 
     // Makes an empty store with chunks of a size.
     pub fn make(&mut self, size: ChunkSize) -> Result<(), StoreFault>
-        ensures call { Runs one (lifted up (making (sectors size))) (C.Device.disk self.old.cow) (told result tt) (C.Device.disk self.new.cow) }
+        ensures call { Runs one (lifted up (making (sectors size))) (C.disk self.old.cow) (told result tt) (C.disk self.new.cow) }
         ensures size { MatchResult result (λ _. self.new.size ≡ size) (λ _. self.new.size ≡ self.old.size) }
         ensures table { MatchResult result (λ _. self.new.table.items.items ≡ []) (λ _. self.new.table.items.items ≡ self.old.table.items.items) }
     {
@@ -63,7 +63,7 @@ impl<C: Device> Store<C> {
 
     // Opens what stands on the device, for an origin of so many sectors; the work buffer is 8,192 bytes.
     pub fn open(&mut self, origin: u32, work: &mut [u8]) -> Result<(), StoreFault>
-        ensures call { Runs one (opening (record { origin = origin; cow = (C.Device.disk self.old.cow).count }) (length work.old)) (C.Device.disk self.old.cow) (told result (record { size = self.new.size; table = self.new.table.items.items })) (C.Device.disk self.new.cow) }
+        ensures call { Runs one (opening (record { origin = origin; cow = (C.disk self.old.cow).count }) (length work.old)) (C.disk self.old.cow) (told result (record { size = self.new.size; table = self.new.table.items.items })) (C.disk self.new.cow) }
         ensures size { OnErr result (self.new.size ≡ self.old.size) }
         ensures table { OnErr result (self.new.table.items.items ≡ []) }
     {
@@ -87,7 +87,7 @@ impl<C: Device> Store<C> {
 
     // The numbers of a store by its header.
     fn read_shape(&mut self, origin: u32) -> Result<Shape, StoreFault>
-        ensures call { Runs one (shape_heading (record { origin = origin; cow = (C.Device.disk self.old.cow).count })) (C.Device.disk self.old.cow) (gave result) (C.Device.disk self.new.cow) }
+        ensures call { Runs one (shape_heading (record { origin = origin; cow = (C.disk self.old.cow).count })) (C.disk self.old.cow) (gave result) (C.disk self.new.cow) }
         ensures size { self.new.size ≡ self.old.size }
         ensures table { self.new.table ≡ self.old.table }
     {
@@ -102,7 +102,7 @@ impl<C: Device> Store<C> {
 
     // The header says from now on that the snapshot is invalid.
     pub fn spoil(&mut self) -> Result<(), StoreFault>
-        ensures call { Runs one (lifted up (spoiling (sectors self.old.size))) (C.Device.disk self.old.cow) (told result tt) (C.Device.disk self.new.cow) }
+        ensures call { Runs one (lifted up (spoiling (sectors self.old.size))) (C.disk self.old.cow) (told result tt) (C.disk self.new.cow) }
         ensures size { self.new.size ≡ self.old.size }
         ensures table { self.new.table ≡ self.old.table }
     {
@@ -112,14 +112,14 @@ impl<C: Device> Store<C> {
 
     // Whether the COW device is on.
     pub fn is_on(&self) -> bool
-        ensures { result ≡ (C.Device.disk self.now.cow).on }
+        ensures { result ≡ (C.disk self.now.cow).on }
     {
         self.cow.is_on()
     }
 
     // The sectors of the COW device.
     pub fn sectors(&self) -> u32
-        ensures { result ≡ (C.Device.disk self.now.cow).count }
+        ensures { result ≡ (C.disk self.now.cow).count }
     {
         self.cow.sectors()
     }
@@ -138,21 +138,21 @@ impl<C: Device> Store<C> {
 
     // The chunk that has the copy of an old chunk, or nothing where no copy exists.
     pub fn lookup(&self, old: u64) -> Option<u64>
-        ensures { result ≡ found-copy self.now.table.items.items old }
+        ensures { result ≡ found_copy self.now.table.items.items old }
     {
         self.table.lookup(old)
     }
 
     // The chunks of the COW device.
     fn chunks(&self) -> u32
-        ensures { result ≡ (C.Device.disk self.now.cow).count / sectors self.now.size }
+        ensures { result ≡ (C.disk self.now.cow).count / sectors self.now.size }
     {
         self.cow.sectors() / self.size.sectors()
     }
 
     // The place for the next copy, or nothing where an exception has no room.
     pub fn next_place(&self) -> Option<u64>
-        ensures { result ≡ room entries_at_most (sectors self.now.size) ((C.Device.disk self.now.cow).count / sectors self.now.size) self.now.table.items.items }
+        ensures { result ≡ room entries_at_most (sectors self.now.size) ((C.disk self.now.cow).count / sectors self.now.size) self.now.table.items.items }
     {
         self.table.next_place(self.size, u64::from(self.chunks()))
     }
@@ -181,7 +181,7 @@ impl<C: Device> Store<C> {
 
     // The numbers of this store that stay, over an origin of so many chunks.
     fn shape(&self, olds: u32) -> Shape
-        ensures { result ≡ shaped olds (C.Device.disk self.now.cow).count self.now.size }
+        ensures { result ≡ shaped olds (C.disk self.now.cow).count self.now.size }
     {
         Shape {
             size: self.size,
@@ -192,7 +192,7 @@ impl<C: Device> Store<C> {
 
     // Enters an old chunk of an origin with so many chunks, at the next place.
     pub fn enter(&mut self, olds: u32, old: u64) -> Result<(), StoreFault>
-        ensures call { Runs one (entering-chunk (shaped olds (C.Device.disk self.old.cow).count self.old.size) self.old.table.items.items old) (C.Device.disk self.old.cow) (told result self.new.table.items.items) (C.Device.disk self.new.cow) }
+        ensures call { Runs one (entering_chunk (shaped olds (C.disk self.old.cow).count self.old.size) self.old.table.items.items old) (C.disk self.old.cow) (told result self.new.table.items.items) (C.disk self.new.cow) }
         ensures size { self.new.size ≡ self.old.size }
         ensures table { OnErr result (self.new.table.items.items ≡ self.old.table.items.items) }
     {
@@ -215,7 +215,7 @@ impl<C: Device> Store<C> {
 
     // Drops the last run from the list.
     pub fn drop_last_run(&mut self) -> Result<(), StoreFault>
-        ensures call { Runs one (drop_run (sectors self.old.size) self.old.table.items.items) (C.Device.disk self.old.cow) (told result self.new.table.items.items) (C.Device.disk self.new.cow) }
+        ensures call { Runs one (drop_run (sectors self.old.size) self.old.table.items.items) (C.disk self.old.cow) (told result self.new.table.items.items) (C.disk self.new.cow) }
         ensures size { self.new.size ≡ self.old.size }
         ensures table { OnErr result (self.new.table.items.items ≡ self.old.table.items.items) }
     {
@@ -237,7 +237,7 @@ impl<C: Device> Store<C> {
 
     // Reads a sector of a data chunk.
     pub fn data_read(&mut self, sector: u32, buffer: &mut [u8]) -> Result<(), StoreFault>
-        ensures call { Runs one (data_read (shaped 0 (C.Device.disk self.old.cow).count self.old.size) sector (length buffer.old)) (C.Device.disk self.old.cow) (told result buffer.new) (C.Device.disk self.new.cow) }
+        ensures call { Runs one (data_read (shaped 0 (C.disk self.old.cow).count self.old.size) sector (length buffer.old)) (C.disk self.old.cow) (told result buffer.new) (C.disk self.new.cow) }
         ensures size { self.new.size ≡ self.old.size }
         ensures table { self.new.table ≡ self.old.table }
         ensures untouched { OnErr result (buffer.new ≡ buffer.old) }
@@ -249,7 +249,7 @@ impl<C: Device> Store<C> {
 
     // Writes a sector of a data chunk.
     pub fn data_write(&mut self, sector: u32, bytes: &[u8]) -> Result<(), StoreFault>
-        ensures call { Runs one (data_write (shaped 0 (C.Device.disk self.old.cow).count self.old.size) sector bytes.now) (C.Device.disk self.old.cow) (told result tt) (C.Device.disk self.new.cow) }
+        ensures call { Runs one (data_write (shaped 0 (C.disk self.old.cow).count self.old.size) sector bytes.now) (C.disk self.old.cow) (told result tt) (C.disk self.new.cow) }
         ensures size { self.new.size ≡ self.old.size }
         ensures table { self.new.table ≡ self.old.table }
     {
@@ -260,7 +260,7 @@ impl<C: Device> Store<C> {
 
     // Whether so many bytes are a sector, and the sector is one of a data chunk.
     fn check_data(&self, sector: u32, len: usize) -> Result<(), StoreFault>
-        ensures { told result tt ≡ data_test (shaped 0 (C.Device.disk self.now.cow).count self.now.size) sector len }
+        ensures { told result tt ≡ data_test (shaped 0 (C.disk self.now.cow).count self.now.size) sector len }
     {
         if len != 512 {
             return Err(StoreFault::Length);
@@ -276,8 +276,8 @@ impl<C: Device> Store<C> {
 
     // The first sector of a data chunk on the device.
     fn data_start(&self, chunk: u64) -> Result<u32, StoreFault>
-        ensures start { gave result ≡ (if on_data (shaped 0 (C.Device.disk self.now.cow).count self.now.size) chunk then good (chunk * sectors self.now.size) else refused (because 2 chunk 0)) }
-        ensures inside { IfOk result (λ first. first + sectors self.now.size ≤ (C.Device.disk self.now.cow).count) }
+        ensures start { gave result ≡ (if on_data (shaped 0 (C.disk self.now.cow).count self.now.size) chunk then good (chunk * sectors self.now.size) else refused (because 2 chunk 0)) }
+        ensures inside { IfOk result (λ first. first + sectors self.now.size ≤ (C.disk self.now.cow).count) }
     {
         if self.shape(0).on_data(chunk) {
             Ok((chunk * u64::from(self.size.sectors())) as u32)
@@ -293,7 +293,7 @@ impl<C: Device> Store<C> {
         sector: u32,
         buffer: &mut [u8],
     ) -> Result<(), StoreFault>
-        ensures call { Runs one (copy_read (shaped 0 (C.Device.disk self.old.cow).count self.old.size) chunk sector (length buffer.old)) (C.Device.disk self.old.cow) (told result buffer.new) (C.Device.disk self.new.cow) }
+        ensures call { Runs one (copy_read (shaped 0 (C.disk self.old.cow).count self.old.size) chunk sector (length buffer.old)) (C.disk self.old.cow) (told result buffer.new) (C.disk self.new.cow) }
         ensures size { self.new.size ≡ self.old.size }
         ensures table { self.new.table ≡ self.old.table }
         ensures untouched { OnErr result (buffer.new ≡ buffer.old) }
@@ -305,7 +305,7 @@ impl<C: Device> Store<C> {
 
     // Writes it.
     pub fn copy_write(&mut self, chunk: u64, sector: u32, bytes: &[u8]) -> Result<(), StoreFault>
-        ensures call { Runs one (copy_write (shaped 0 (C.Device.disk self.old.cow).count self.old.size) chunk sector bytes.now) (C.Device.disk self.old.cow) (told result []) (C.Device.disk self.new.cow) }
+        ensures call { Runs one (copy_write (shaped 0 (C.disk self.old.cow).count self.old.size) chunk sector bytes.now) (C.disk self.old.cow) (told result []) (C.disk self.new.cow) }
         ensures size { self.new.size ≡ self.old.size }
         ensures table { self.new.table ≡ self.old.table }
     {
@@ -316,7 +316,7 @@ impl<C: Device> Store<C> {
 
     // Reads a whole data chunk.
     pub fn chunk_read(&mut self, chunk: u64, buffer: &mut [u8]) -> Result<(), StoreFault>
-        ensures call { Runs one (chunk_read (shaped 0 (C.Device.disk self.old.cow).count self.old.size) chunk (length buffer.old)) (C.Device.disk self.old.cow) (told result buffer.new) (C.Device.disk self.new.cow) }
+        ensures call { Runs one (chunk_read (shaped 0 (C.disk self.old.cow).count self.old.size) chunk (length buffer.old)) (C.disk self.old.cow) (told result buffer.new) (C.disk self.new.cow) }
         ensures size { self.new.size ≡ self.old.size }
         ensures table { self.new.table ≡ self.old.table }
     {
@@ -330,7 +330,7 @@ impl<C: Device> Store<C> {
 
     // Writes a whole data chunk.
     pub fn chunk_write(&mut self, chunk: u64, bytes: &[u8]) -> Result<(), StoreFault>
-        ensures call { Runs one (chunk_write (shaped 0 (C.Device.disk self.old.cow).count self.old.size) chunk bytes.now) (C.Device.disk self.old.cow) (told result tt) (C.Device.disk self.new.cow) }
+        ensures call { Runs one (chunk_write (shaped 0 (C.disk self.old.cow).count self.old.size) chunk bytes.now) (C.disk self.old.cow) (told result tt) (C.disk self.new.cow) }
         ensures size { self.new.size ≡ self.old.size }
         ensures table { self.new.table ≡ self.old.table }
     {
@@ -344,7 +344,7 @@ impl<C: Device> Store<C> {
 
     // Flushes the COW device.
     pub fn flush(&mut self) -> Result<(), StoreFault>
-        ensures call { Runs one (lifted up (flushing finished)) (C.Device.disk self.old.cow) (told result tt) (C.Device.disk self.new.cow) }
+        ensures call { Runs one (lifted up (flushing finished)) (C.disk self.old.cow) (told result tt) (C.disk self.new.cow) }
         ensures size { self.new.size ≡ self.old.size }
         ensures table { self.new.table ≡ self.old.table }
     {

@@ -7,16 +7,16 @@ use Rattle.device.proofs.range.write_zeros.Goals as goal
 pub loop-init : goal.loop-init
 loop-init g c = same (ap (zeroing _) (none_yet _))
 
-pub returns-in-err-write-blank : goal.returns-in-err-write-blank
-returns-in-err-write-blank g c =
-    ends_as (passed_on c.from-residual.result tt _ c.from-residual.ensures.1)
-    (c.loop.invariant ⨾ same (zeroing_more _ _ _ c.loop-test.true) ⨾ called c.in-err-write-blank.ensures)
+pub returns-in_err-write_blank : goal.returns-in_err-write_blank
+returns-in_err-write_blank g c =
+    ends_as (passed_on c.from_residual.result tt _ c.from_residual.ensures.1)
+    (c.loop.invariant ⨾ same (zeroing_more _ _ _ c.loop-test.true) ⨾ called c.in_err-write_blank.ensures)
 
-pub overflow-add-sector : goal.overflow-add-sector
-overflow-add-sector g c = omega (arith, write_here c.in-ok-write-blank.ensures, g.met.D.Device.whole c.loop.device)
+pub overflow_add-sector : goal.overflow_add-sector
+overflow_add-sector g c = omega (arith, write_here c.in_ok-write_blank.ensures, g.met.D.Device.whole c.loop.device)
 
 pub loop-preserved : goal.loop-preserved
-loop-preserved g c = c.loop.invariant ⨾ same (zeroing_more _ _ _ c.loop-test.true) ⨾ called c.in-ok-write-blank.ensures
+loop-preserved g c = c.loop.invariant ⨾ same (zeroing_more _ _ _ c.loop-test.true) ⨾ called c.in_ok-write_blank.ensures
 
 pub returns : goal.returns
 returns g c = ends (c.loop.invariant ⨾ same (zeroing_none _ _ _ c.loop-test.false))

@@ -1,13 +1,13 @@
 use Rattle.device.proofs.Steps.{◌⨾◌, called, ran, ends, ends_as, passed_on}
 use Rattle.store.proofs.clean.write_lasting.Goals as goal
 
-pub returns-in-err-write-sectors : goal.returns-in-err-write-sectors
-returns-in-err-write-sectors g c = ends_as (passed_on c.from-residual.result tt _ c.from-residual.ensures.1) (ran _ c.in-err-write-sectors.ensures)
+pub returns-in_err-write_sectors : goal.returns-in_err-write_sectors
+returns-in_err-write_sectors g c = ends_as (passed_on c.from_residual.result tt _ c.from_residual.ensures.1) (ran _ c.in_err-write_sectors.ensures)
 
-pub returns-in-err-flush : goal.returns-in-err-flush
-returns-in-err-flush g c =
-    ends_as (passed_on c.from-residual-in-err-flush.result tt _ c.from-residual-in-err-flush.ensures.1)
-    (ran _ c.in-ok-write-sectors.ensures ⨾ called c.in-err-flush.ensures)
+pub returns-in_err-flush : goal.returns-in_err-flush
+returns-in_err-flush g c =
+    ends_as (passed_on c.from_residual-in_err-flush.result tt _ c.from_residual-in_err-flush.ensures.1)
+    (ran _ c.in_ok-write_sectors.ensures ⨾ called c.in_err-flush.ensures)
 
 pub returns : goal.returns
-returns g c = ends (ran _ c.in-ok-write-sectors.ensures ⨾ called c.in-ok-flush.ensures)
+returns g c = ends (ran _ c.in_ok-write_sectors.ensures ⨾ called c.in_ok-flush.ensures)

@@ -6,18 +6,18 @@ use Rattle.store.specs.Image.{Sizes, header_judged}
 use Rattle.store.proofs.Exits.{passed_value}
 use Rattle.store.proofs.open.read_header.Goals as goal
 
-pub returns-in-err-read : goal.returns-in-err-read
-returns-in-err-read g c = ends_as (passed_value c.from-residual.result _ c.from-residual.ensures.1) (called c.in-err-read.ensures.call)
+pub returns-in_err-read : goal.returns-in_err-read
+returns-in_err-read g c = ends_as (passed_value c.from_residual.result _ c.from_residual.ensures.1) (called c.in_err-read.ensures.call)
 
-pub returns-in-err-header : goal.returns-in-err-header
-returns-in-err-header g c =
+pub returns-in_err-header : goal.returns-in_err-header
+returns-in_err-header g c =
     let z : Sizes = record { origin = c.args.origin; cow = (g.D.Device.disk c.args.device.now).count } in
-    ends_as (passed_value c.from-residual-in-err-header.result _ c.from-residual-in-err-header.ensures.1)
-    (called c.in-ok-read.ensures.call ⨾ same (ap (λ t. done (header_judged z t)) (sym c.in-err-header.ensures)))
+    ends_as (passed_value c.from_residual-in_err-header.result _ c.from_residual-in_err-header.ensures.1)
+    (called c.in_ok-read.ensures.call ⨾ same (ap (λ t. done (header_judged z t)) (sym c.in_err-header.ensures)))
 
 pub returns : goal.returns
 returns g c =
     let z : Sizes = record { origin = c.args.origin; cow = (g.D.Device.disk c.args.device.now).count } in
-    let sized = ap (λ n. header_judged (record { origin = c.args.origin; cow = n }) (good c.in-ok-header.header)) c.sectors-cow.ensures in
-    ends_as (c.judge-header.ensures ∙ sized)
-    (called c.in-ok-read.ensures.call ⨾ same (ap (λ t. done (header_judged z t)) (sym c.in-ok-header.ensures)))
+    let sized = ap (λ n. header_judged (record { origin = c.args.origin; cow = n }) (good c.in_ok-header.header)) c.sectors-cow.ensures in
+    ends_as (c.judge_header.ensures ∙ sized)
+    (called c.in_ok-read.ensures.call ⨾ same (ap (λ t. done (header_judged z t)) (sym c.in_ok-header.ensures)))

@@ -8,22 +8,22 @@ use Rattle.store.proofs.sectors.drop_to.Goals as goal
 pub loop-j-init : goal.loop-j-init
 loop-j-init g c = stay
 
-pub returns-in-err-write : goal.returns-in-err-write
-returns-in-err-write g c =
-    ends_as (passed_on c.from-residual.result tt _ c.from-residual.ensures.1)
+pub returns-in_err-write : goal.returns-in_err-write
+returns-in_err-write g c =
+    ends_as (passed_on c.from_residual.result tt _ c.from_residual.ensures.1)
     (c.loop-j.invariant ⨾ same (ap (λ p. then p (λ _. flushing finished)) (unwinding_more _ _ _ _ c.loop-j-test.true))
-    ⨾ called (written c.area-place.result c.picture.result c.area-place.ensures c.picture.ensures c.in-err-write.ensures))
+    ⨾ called (written c.area_place.result c.picture.result c.area_place.ensures c.picture.ensures c.in_err-write.ensures))
 
 pub loop-j-preserved : goal.loop-j-preserved
 loop-j-preserved g c =
     c.loop-j.invariant ⨾ same (ap (λ p. then p (λ _. flushing finished)) (unwinding_more _ _ _ _ c.loop-j-test.true))
-    ⨾ called (written c.area-place.result c.picture.result c.area-place.ensures c.picture.ensures c.in-ok-write.ensures)
+    ⨾ called (written c.area_place.result c.picture.result c.area_place.ensures c.picture.ensures c.in_ok-write.ensures)
 
-pub returns-in-err-flush : goal.returns-in-err-flush
-returns-in-err-flush g c =
-    ends_as (passed_on c.from-residual-in-err-flush.result tt _ c.from-residual-in-err-flush.ensures.1)
-    (c.loop-j.invariant ⨾ same (ap (λ p. then p (λ _. flushing finished)) (unwinding_none _ _ _ _ c.loop-j-test.false)) ⨾ called c.in-err-flush.ensures)
+pub returns-in_err-flush : goal.returns-in_err-flush
+returns-in_err-flush g c =
+    ends_as (passed_on c.from_residual-in_err-flush.result tt _ c.from_residual-in_err-flush.ensures.1)
+    (c.loop-j.invariant ⨾ same (ap (λ p. then p (λ _. flushing finished)) (unwinding_none _ _ _ _ c.loop-j-test.false)) ⨾ called c.in_err-flush.ensures)
 
 pub returns : goal.returns
 returns g c =
-    ends (c.loop-j.invariant ⨾ same (ap (λ p. then p (λ _. flushing finished)) (unwinding_none _ _ _ _ c.loop-j-test.false)) ⨾ called c.in-ok-flush.ensures)
+    ends (c.loop-j.invariant ⨾ same (ap (λ p. then p (λ _. flushing finished)) (unwinding_none _ _ _ _ c.loop-j-test.false)) ⨾ called c.in_ok-flush.ensures)

@@ -7,16 +7,16 @@ use Rattle.store.proofs.Exits.{passed_up}
 use Rattle.store.proofs.Calls.{read_on}
 use Rattle.store.proofs.store.Store.chunk_read.Goals as goal
 
-pub returns-in-err-read-sectors : goal.returns-in-err-read-sectors
-returns-in-err-read-sectors g c =
+pub returns-in_err-read_sectors : goal.returns-in_err-read_sectors
+returns-in_err-read_sectors g c =
     let self = c.args.self.now in
     let buffer = c.args.buffer.now in
     let s = shaped 0 (g.C.Device.disk self.cow).count self.size in
-    let first = c.in-ok-first.first in
+    let first = c.in_ok-first.first in
     let long : length buffer ≡ 512 * sectors self.size = omega (arith, c.sectors.ensures) in
-    let plan = read_on s c.args.chunk first c.in-ok-first.ensures.start (length buffer) long in
+    let plan = read_on s c.args.chunk first c.in_ok-first.ensures.start (length buffer) long in
     record {
-      call = ends_as (passed_up c.from-residual-in-err-read-sectors.result _ _ c.from-residual-in-err-read-sectors.ensures.1) (same plan ⨾ ran _ (read_gathers first buffer (sectors self.size) long c.in-err-read-sectors.ensures));
+      call = ends_as (passed_up c.from_residual-in_err-read_sectors.result _ _ c.from_residual-in_err-read_sectors.ensures.1) (same plan ⨾ ran _ (read_gathers first buffer (sectors self.size) long c.in_err-read_sectors.ensures));
       size = refl;
       table = refl;
     }
@@ -26,7 +26,7 @@ returns g c =
     let self = c.args.self.now in
     let buffer = c.args.buffer.now in
     let s = shaped 0 (g.C.Device.disk self.cow).count self.size in
-    let first = c.in-ok-first.first in
+    let first = c.in_ok-first.first in
     let long : length buffer ≡ 512 * sectors self.size = omega (arith, c.sectors.ensures) in
-    let plan = read_on s c.args.chunk first c.in-ok-first.ensures.start (length buffer) long in
-    record { call = ends (same plan ⨾ ran _ (read_gathers first buffer (sectors self.size) long c.in-ok-read-sectors.ensures)); size = refl; table = refl }
+    let plan = read_on s c.args.chunk first c.in_ok-first.ensures.start (length buffer) long in
+    record { call = ends (same plan ⨾ ran _ (read_gathers first buffer (sectors self.size) long c.in_ok-read_sectors.ensures)); size = refl; table = refl }

@@ -6,21 +6,21 @@ use Rattle.store.proofs.Exits.{passed_up}
 use Rattle.store.proofs.Calls.{copy_on}
 use Rattle.store.proofs.store.Store.copy_read.Goals as goal
 
-pub returns-in-err-read : goal.returns-in-err-read
-returns-in-err-read g c =
+pub returns-in_err-read : goal.returns-in_err-read
+returns-in_err-read g c =
     let self = c.args.self.now in
     let s = shaped 0 (g.C.Device.disk self.cow).count self.size in
-    let plan = copy_on s c.args.chunk c.in-ok-first.first c.in-ok-first.ensures.start c.args.sector c.sectors.result (reads (length c.args.buffer.now)) c.sectors.ensures in
+    let plan = copy_on s c.args.chunk c.in_ok-first.first c.in_ok-first.ensures.start c.args.sector c.sectors.result (reads (length c.args.buffer.now)) c.sectors.ensures in
     record {
-      call = ends_as (passed_up c.from-residual-in-err-read.result _ _ c.from-residual-in-err-read.ensures.1) (same plan ⨾ called c.in-err-read.ensures.call);
+      call = ends_as (passed_up c.from_residual-in_err-read.result _ _ c.from_residual-in_err-read.ensures.1) (same plan ⨾ called c.in_err-read.ensures.call);
       size = refl;
       table = refl;
-      untouched = untouched_on c.from-residual-in-err-read.result c.in-err-read.ensures.untouched;
+      untouched = untouched_on c.from_residual-in_err-read.result c.in_err-read.ensures.untouched;
     }
 
 pub returns : goal.returns
 returns g c =
     let self = c.args.self.now in
     let s = shaped 0 (g.C.Device.disk self.cow).count self.size in
-    let plan = copy_on s c.args.chunk c.in-ok-first.first c.in-ok-first.ensures.start c.args.sector c.sectors.result (reads (length c.args.buffer.now)) c.sectors.ensures in
-    record { call = ends (same plan ⨾ called c.in-ok-read.ensures.call); size = refl; table = refl; untouched = tt }
+    let plan = copy_on s c.args.chunk c.in_ok-first.first c.in_ok-first.ensures.start c.args.sector c.sectors.result (reads (length c.args.buffer.now)) c.sectors.ensures in
+    record { call = ends (same plan ⨾ called c.in_ok-read.ensures.call); size = refl; table = refl; untouched = tt }

@@ -6,20 +6,20 @@ use Rattle.store.specs.Refusals.{asking}
 use Rattle.store.proofs.Exits.{passed_up}
 use Rattle.store.proofs.store.Store.data_read.Goals as goal
 
-pub returns-in-err-read : goal.returns-in-err-read
-returns-in-err-read g c =
+pub returns-in_err-read : goal.returns-in_err-read
+returns-in_err-read g c =
     record {
-      call = ends_as (passed_up c.from-residual-in-err-read.result _ _ c.from-residual-in-err-read.ensures.1)
-          (same (ap (λ t. onward t (λ _. asking (reads (length c.args.buffer.now) c.args.sector) (λ b. done (good b)))) (sym c.in-ok-check-data.ensures)) ⨾ called c.in-err-read.ensures.call);
+      call = ends_as (passed_up c.from_residual-in_err-read.result _ _ c.from_residual-in_err-read.ensures.1)
+          (same (ap (λ t. onward t (λ _. asking (reads (length c.args.buffer.now) c.args.sector) (λ b. done (good b)))) (sym c.in_ok-check_data.ensures)) ⨾ called c.in_err-read.ensures.call);
       size = refl;
       table = refl;
-      untouched = untouched_on c.from-residual-in-err-read.result c.in-err-read.ensures.untouched;
+      untouched = untouched_on c.from_residual-in_err-read.result c.in_err-read.ensures.untouched;
     }
 
 pub returns : goal.returns
 returns g c =
     record {
-      call = ends (same (ap (λ t. onward t (λ _. asking (reads (length c.args.buffer.now) c.args.sector) (λ b. done (good b)))) (sym c.in-ok-check-data.ensures)) ⨾ called c.in-ok-read.ensures.call);
+      call = ends (same (ap (λ t. onward t (λ _. asking (reads (length c.args.buffer.now) c.args.sector) (λ b. done (good b)))) (sym c.in_ok-check_data.ensures)) ⨾ called c.in_ok-read.ensures.call);
       size = refl;
       table = refl;
       untouched = tt;

@@ -15,12 +15,12 @@ returns-in-Ok g c =
     let count = (g.C.Device.disk self.cow).count in
     let s = shaped c.args.olds count self.size in
     let p = c.in-Some.new in
-    let there = sym c.next-place.ensures ∙ c.in-Some.is in
-    let none : is_some (lookup table c.args.old) ≡ false = sym (ap is_some c.lookup.ensures) ∙ sym c.is-some.ensures ∙ c.if-is-some.false in
+    let there = sym c.next_place.ensures ∙ c.in-Some.is in
+    let none : is_some (lookup table c.args.old) ≡ false = sym (ap is_some c.lookup.ensures) ∙ sym c.is_some.ensures ∙ c.if-is_some.false in
     let few : length table ≤ 2048 = omega (arith, self.table.few, self.table.items.ok.0) in
     let list = pushed s table c.args.old p count c.push.ensures.list c.push.ensures.taken few (omega arith) (div-le_self count (sectors self.size)) (g.met.C.Device.whole self.cow).few (roomy _ _ table p there) in
     let plan = enter_on s table c.args.old p none (omega arith) there in
-    record { call = ends_as (ap good list) (same plan ⨾ ran _ (entered _ _ c.len-n.result (longer s table c.args.old p) (length table) (c.as-slice.ensures ∙ list) c.len-n.ensures c.in-Ok.ensures)); size = refl; table = tt }
+    record { call = ends_as (ap good list) (same plan ⨾ ran _ (entered _ _ c.len-n.result (longer s table c.args.old p) (length table) (c.as_slice.ensures ∙ list) c.len-n.ensures c.in-Ok.ensures)); size = refl; table = tt }
 
 pub returns-in-Err : goal.returns-in-Err
 returns-in-Err g c =
@@ -29,13 +29,13 @@ returns-in-Err g c =
     let count = (g.C.Device.disk self.cow).count in
     let s = shaped c.args.olds count self.size in
     let p = c.in-Some.new in
-    let there = sym c.next-place.ensures ∙ c.in-Some.is in
-    let none : is_some (lookup table c.args.old) ≡ false = sym (ap is_some c.lookup.ensures) ∙ sym c.is-some.ensures ∙ c.if-is-some.false in
+    let there = sym c.next_place.ensures ∙ c.in-Some.is in
+    let none : is_some (lookup table c.args.old) ≡ false = sym (ap is_some c.lookup.ensures) ∙ sym c.is_some.ensures ∙ c.if-is_some.false in
     let few : length table ≤ 2048 = omega (arith, self.table.few, self.table.items.ok.0) in
     let list = pushed s table c.args.old p count c.push.ensures.list c.push.ensures.taken few (omega arith) (div-le_self count (sectors self.size)) (g.met.C.Device.whole self.cow).few (roomy _ _ table p there) in
     let plan = enter_on s table c.args.old p none (omega arith) there in
     record {
-      call = ends (same plan ⨾ ran _ (entered _ _ c.len-n.result (longer s table c.args.old p) (length table) (c.as-slice.ensures ∙ list) c.len-n.ensures c.in-Err.ensures));
+      call = ends (same plan ⨾ ran _ (entered _ _ c.len-n.result (longer s table c.args.old p) (length table) (c.as_slice.ensures ∙ list) c.len-n.ensures c.in-Err.ensures));
       size = refl;
       table = c.truncate.ensures ∙ ap (take c.len-n.result) list ∙ take_at table _ c.len-n.result (sym c.len-n.ensures);
     }
