@@ -1,6 +1,7 @@
 // What a snapshot promises over whole histories of calls and power cuts. This crate is theory: its
 // function has no code, and its contract names the theorem.
 #![tactic(auto)]
+
 ghost use Rattle.history.specs.Promise.{CrashSafe};
 
 // A snapshot that was made on any two devices keeps the promise in every history of calls, in any

@@ -1,6 +1,7 @@
 // Opens COW images that a Linux kernel wrote, and prints what opening finds. Its figures are those of the kernel's own status, but for
 // the metadata where the last area is full: the kernel then counts the next area too.
 #![tactic(auto)]
+
 mod fault;
 mod run;
 

@@ -1,5 +1,6 @@
 // A disk is loaded with new bytes, the power fails on the way, and both devices are read back afterwards.
 #![tactic(auto)]
+
 use anyhow::anyhow;
 use device::{Device, DeviceFault, FuseDevice, PlainDevice, PowerCut, read_sectors, write_sectors};
 use std::alloc::{AllocError, Global};
