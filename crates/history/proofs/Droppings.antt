@@ -12,8 +12,9 @@ use Rattle.store.specs.Refusals.{StoreRefusal, up}
 use Rattle.store.specs.Steps.{finished, flushing, unwinding, dropping, drop_run}
 use Rattle.recovery.specs.Data.{DataKept}
 use Rattle.recovery.specs.Readings.{image}
-use Rattle.recovery.specs.Standing.{Listed, Stands, Lies}
-use Rattle.recovery.proofs.Calls.{Did, went, broke, did, drop_stands, drop_breaks}
+use Rattle.recovery.specs.Standing.{Listed, Stands}
+use Rattle.recovery.specs.Lying.{Lies}
+use Rattle.recovery.proofs.Calls.{Did, went, broke, did, drop_stands, drop_lies}
 use Rattle.recovery.proofs.Datas.{calls_keep_data}
 use Rattle.recovery.proofs.Finds.{sectors_within}
 use Rattle.recovery.proofs.Learns.{area_sector_on}
@@ -87,7 +88,7 @@ drops z size (x ∷ xs) {d} {e} {t} some same l stands r = by (did (dropping c l
         drops_off a.disk
         (record { fault = store_up (up (refusal 3 q)); told = a.told ∙ ap (raised store_up) (is ∙ ap (λ y. refused (up y)) three_is); number = three cow q; gone = subst (λ y. both_on y ≡ false) (sym a.left) (off_side cow d a.disk off) })
         a.left data_kept
-        (λ after cut. drop_breaks z size es d.cow a.disk after a.answer stands a.ran cut)
+        (λ after cut. drop_lies z size es d.cow a.disk after a.answer stands a.ran cut)
 
     by : Did (dropping c left (length es)) left a.answer d.cow a.disk → Dropped z size es d t e
     by (went q is) = good_drop is (fared q)

@@ -14,14 +14,15 @@ use Rattle.store.specs.Steps.{shape_of, flushing, storing, preparing, entering, 
 use Rattle.recovery.specs.Breaks.{more}
 use Rattle.recovery.specs.Data.{DataKept}
 use Rattle.recovery.specs.Readings.{Image, image, found}
-use Rattle.recovery.specs.Standing.{Listed, Stands, Lies}
+use Rattle.recovery.specs.Standing.{Listed, Stands}
+use Rattle.recovery.specs.Lying.{Lies}
 use Rattle.recovery.proofs.Calls.{Did, went, broke, did}
-use Rattle.recovery.proofs.Enters.{entering_breaks, entering_stands}
+use Rattle.recovery.proofs.Enters.{entering_lies, entering_stands}
 use Rattle.recovery.proofs.Finds.{sectors_within}
 use Rattle.recovery.proofs.Keeps.{quiet_keeps, entering_quiet}
 use Rattle.recovery.proofs.Listing.{entering_listed}
 use Rattle.recovery.proofs.Orders.{entering_order}
-use Rattle.recovery.proofs.Stand.{standing_opens}
+use Rattle.recovery.proofs.Stand.{standing_lies}
 use Rattle.recovery.proofs.Zeros.{flushed_good, stored_good, then_good}
 use Rattle.history.specs.Faults.{Fault, gone_fault, store_up, in_store}
 use Rattle.history.specs.Steps.{sizes, both_on, serving}
@@ -172,7 +173,7 @@ module _ (p : Plain) (valid : p.void ≡ false) (d : Disks) (st : Up p (serving 
     entered_survives : Covers p e ⊎ Covers (parted p s) e
     entered_survives =
         ⊎_elim
-        (λ before. inl (without (λ m ch. standing_opens p.size p.chunk (table_of p) m stand.listed (λ u. before u (m u) ((cut_fewer cut.cow).possible u (m u) (ch u))))))
+        (λ before. inl (without (λ m ch. standing_lies p.size p.chunk (table_of p) m stand.listed (λ u. before u (m u) ((cut_fewer cut.cow).possible u (m u) (ch u))))))
         (λ lasts.
         ⊎_elim
         (λ old. inl (without (left_one (table_of p) old)))
@@ -181,7 +182,7 @@ module _ (p : Plain) (valid : p.void ≡ false) (d : Disks) (st : Up p (serving 
         inr (parted_covers p s k out free e valid (subst (Listed p.size p.chunk) (sym is) listed_longer) (left_one _ (subst (λ l. Lies p.size p.chunk l (image e.cow)) (sym is) new))
         (λ u b l same has. lasts _ b (new_data u) ((cut_fewer cut.cow).possible _ b has) ∙ filled u l same)
         cut_copies cut_sizes cut_origin shares))
-        (entering_breaks p.size p.chunk (table_of p) new_one d.cow w e.cow t stand listed_longer run cut.cow))
+        (entering_lies p.size p.chunk (table_of p) new_one d.cow w e.cow t stand listed_longer run cut.cow))
         (entering_order p.size p.chunk (table_of p) new_one d.cow w t stand listed_longer run)
 
   -- how entering ends: the chunk has diverged; or a device went, and then it has or has not

@@ -13,11 +13,12 @@ use Rattle.store.specs.Steps.{Contents, opening}
 use Rattle.recovery.specs.Breaks.{Sure}
 use Rattle.recovery.specs.Data.{IsData, DataKept}
 use Rattle.recovery.specs.Readings.{Image, image, found}
-use Rattle.recovery.specs.Standing.{Stands, Lies}
-use Rattle.recovery.proofs.Reaches.{opening_finds}
+use Rattle.recovery.specs.Standing.{Stands}
+use Rattle.recovery.specs.Lying.{Lies}
+use Rattle.recovery.proofs.Reaches.{opening_answers}
 use Rattle.recovery.proofs.Opens.{opening_refused}
-use Rattle.recovery.proofs.Stays.{opening_stands}
-use Rattle.recovery.proofs.Cleans.{opening_breaks}
+use Rattle.recovery.proofs.Stays.{legible_stands}
+use Rattle.recovery.proofs.Cleans.{opening_lies}
 use Rattle.recovery.proofs.Rests.{opening_standing}
 use Rattle.recovery.proofs.Datas.{calls_keep_data}
 use Rattle.history.specs.Faults.{Fault, store_up, in_store}
@@ -166,7 +167,7 @@ module _ (p : Plain) (d : Disks) (k : ℕ) (shut : Shut p d) (u : Told StoreRefu
 
       stands_after : u ≡ finding d → Stands p.size p.chunk (table_of p) w
       stands_after is =
-          opening_stands p.size p.chunk (table_of p) d.cow w
+          legible_stands p.size p.chunk (table_of p) d.cow w
           (subst (λ z. z.origin < 2 ^ 32) shut.agrees.sectors shut.whole.origin.few)
           (subst (λ z. z.cow < 2 ^ 32) shut.agrees.sectors shut.whole.cow.few)
           (ap (λ z. z.cow) (sym shut.agrees.sectors)) sure lies.bytes
@@ -208,7 +209,7 @@ module _ (p : Plain) (d : Disks) (k : ℕ) (shut : Shut p d) (u : Told StoreRefu
         survives = λ x cut. (
           p,
           has_push [] p,
-          covers_found x (cut_fewer cut.origin) (cut_fewer cut.cow) (λ m ch. subst (Lies p.size p.chunk (table_of p)) (sym (single_choice x.cow cut.cow.single m ch)) (opening_breaks p.size p.chunk (table_of p) d.cow w x.cow u (ap (λ z. z.cow) (sym shut.agrees.sectors)) sure lies ran cut.cow)),
+          covers_found x (cut_fewer cut.origin) (cut_fewer cut.cow) (λ m ch. subst (Lies p.size p.chunk (table_of p)) (sym (single_choice x.cow cut.cow.single m ch)) (opening_lies p.size p.chunk (table_of p) d.cow w x.cow u (ap (λ z. z.cow) (sym shut.agrees.sectors)) sure lies ran cut.cow)),
         );
       }
 
@@ -217,7 +218,7 @@ module _ (p : Plain) (d : Disks) (k : ℕ) (shut : Shut p d) (u : Told StoreRefu
 
   reopened : Ended
   reopened =
-      let ends = opening_finds (sizes d) d.cow w u refl shut.whole.cow.some (λ s l. shut.whole.cow.long s _ l (last_has (d.cow.cells s))) r in
+      let ends = opening_answers (sizes d) d.cow w u refl shut.whole.cow.some (λ s l. shut.whole.cow.long s _ l (last_has (d.cow.cells s))) r in
       ⊎_elim (λ v. void_ends v ends) (λ v. ⊎_elim (λ st. standing_ends v st ends) (λ sure. sure_ends v sure ends) (shut.ready v)) (cases_Bool p.void)
 
 pub core_reopen : (p : Plain) (d : Disks) (k : ℕ) → Shut p d → (o : Outcome (Unit {0})) (e : Disks) → Runs both (after closed (in_store (opening (sizes d) work_bytes)) (λ x. giving (serving x.size x.table) tt)) d o e → Reopened p k (replied (λ _. nothing) o.answer) o.memory e

@@ -7,14 +7,15 @@ use Rattle.layout.specs.declared.exception.Exception.{Exception}
 use Rattle.layout.specs.Chunks.{sectors, is_data, in_copy}
 use Rattle.store.specs.Image.{Sizes}
 use Rattle.recovery.specs.Readings.{Image, image}
-use Rattle.recovery.specs.Standing.{Stands, Lies}
+use Rattle.recovery.specs.Standing.{Stands}
+use Rattle.recovery.specs.Lying.{Lies}
 use Rattle.recovery.proofs.Finds.{sectors_within}
-use Rattle.recovery.proofs.Stand.{standing_opens}
+use Rattle.recovery.proofs.Stand.{standing_lies}
 use Rattle.history.proofs.Invariant.{Chosen, single_is}
 
 -- whatever a power cut leaves, opening finds the list that stands
 pub stands_lists : (z : Sizes) (size : ChunkSize) (es : List Exception) (w : Disk) → Stands z size es w → (m : Image) → Chosen w m → Lies z size es m
-stands_lists z size es w st m ch = standing_opens z size es m st.listed (λ s. st.sectors s (m s) (ch s))
+stands_lists z size es w st m ch = standing_lies z size es m st.listed (λ s. st.sectors s (m s) (ch s))
 
 -- the sectors of a copy are those of its chunk, in the same order
 pub in_copy_chunk : (c k s : ℕ) → 0 < c → in_copy c k s / c ≡ k

@@ -13,16 +13,17 @@ use Rattle.store.specs.Image.{Sizes}
 use Rattle.store.specs.Refusals.{StoreRefusal, because, up, doing}
 use Rattle.store.specs.Steps.{shape_of, making, spoiling, entering, dropping, enter, entered_at, drop_run}
 use Rattle.recovery.specs.Readings.{image, found}
-use Rattle.recovery.specs.Standing.{Standing, Listed, Stands, Lies}
-use Rattle.recovery.specs.Breaks.{more, LeftByMaking}
-use Rattle.recovery.specs.Calls.{MakeStands, MakeBreaks, EnterStands, EnterBreaks, DropStands, DropBreaks, SpoilStays, SpoilBreaks}
+use Rattle.recovery.specs.Standing.{Standing, Listed, Stands}
+use Rattle.recovery.specs.Breaks.{more}
+use Rattle.recovery.specs.Calls.{MakeStands, EnterStands, DropStands, SpoilStays}
+use Rattle.recovery.specs.Lying.{Lies, LyingByMaking, MakeLies, EnterLies, DropLies, SpoilLies}
 use Rattle.recovery.proofs.Allowed.{cut_within}
-use Rattle.recovery.proofs.Drops.{dropping_breaks, dropping_stands}
-use Rattle.recovery.proofs.Enters.{entering_breaks, entering_stands}
+use Rattle.recovery.proofs.Drops.{dropping_lies, dropping_stands}
+use Rattle.recovery.proofs.Enters.{entering_lies, entering_stands}
 use Rattle.recovery.proofs.Listing.{entering_listed}
-use Rattle.recovery.proofs.Makes.{making_breaks, making_stands}
-use Rattle.recovery.proofs.Spoils.{invalid_opens, spoiling_breaks}
-use Rattle.recovery.proofs.Stand.{standing_opens}
+use Rattle.recovery.proofs.Makes.{making_lies, making_stands}
+use Rattle.recovery.proofs.Spoils.{invalid_opens, spoiling_lies}
+use Rattle.recovery.proofs.Stand.{standing_lies}
 use Rattle.recovery.proofs.Zeros.{put_here, settled_single, stored_good}
 
 -- steps on the device, and then an answer: they were good and so is it, or the device refused
@@ -75,17 +76,17 @@ enter_stands z size es table old d e small few stands r = by (entered z size es 
         subst (λ l. Stands z size l e) (sym (same_answer answer)) (entering_stands z size es _ d e stands (entering_listed z size es old p small few stands.listed free inside is) run)
     by (tried p free inside is (broke f run answer)) = never_good answer
 
-pub enter_breaks : EnterBreaks
-enter_breaks z size es old d e after t small few stands r cut = by (entered z size es old t d e r)
+pub enter_lies : EnterLies
+enter_lies z size es old d e after t small few stands r cut = by (entered z size es old t d e r)
   where
     Answer : Type 0
     Answer = Lies z size es (image after) ⊎ ((p : ℕ) × (room entries_at_most (sectors size) (z.cow / sectors size) es ≡ Some p) × Lies z size (more es (record { old = old; new = p })) (image after))
 
     steps : (p : ℕ) → Listed z size (more es (record { old = old; new = p })) → room entries_at_most (sectors size) (z.cow / sectors size) es ≡ Some p → (u : Told Refusal (Unit {0})) → Runs one (entering (sectors size) (more es (record { old = old; new = p })) (length es)) d u e → Answer
-    steps p listed is u run = ⊎_elim inl (λ new. inr (p, is, new)) (entering_breaks z size es _ d e after u stands listed run cut)
+    steps p listed is u run = ⊎_elim inl (λ new. inr (p, is, new)) (entering_lies z size es _ d e after u stands listed run cut)
 
     by : Entered z size es old t d e → Answer
-    by (declined f is same) = inl (standing_opens z size es (image after) stands.listed (cut_within (Standing (shape_of z size) es) (subst (λ y. Stands z size es y) (sym same) stands).sectors cut))
+    by (declined f is same) = inl (standing_lies z size es (image after) stands.listed (cut_within (Standing (shape_of z size) es) (subst (λ y. Stands z size es y) (sym same) stands).sectors cut))
     by (tried p free inside is (went run answer)) = steps p (entering_listed z size es old p small few stands.listed free inside is) is (good tt) run
     by (tried p free inside is (broke f run answer)) = steps p (entering_listed z size es old p small few stands.listed free inside is) is (refused f) run
 
@@ -93,7 +94,7 @@ enter_breaks z size es old d e after t small few stands r cut = by (entered z si
 
 -- what stands is found after a power cut
 stays : (z : Sizes) (size : ChunkSize) (es : List Exception) (e after : Disk) → Stands z size es e → Cut e after → Lies z size es (image after)
-stays z size es e after stands cut = standing_opens z size es (image after) stands.listed (cut_within (Standing (shape_of z size) es) stands.sectors cut)
+stays z size es e after stands cut = standing_lies z size es (image after) stands.listed (cut_within (Standing (shape_of z size) es) stands.sectors cut)
 
 pub drop_stands : DropStands
 drop_stands z size [] table d e stands r = let o = run_over r in subst (λ l. Stands z size l e) (sym (same_answer o.0)) (subst (λ y. Stands z size [] y) (sym o.1) stands)
@@ -103,16 +104,16 @@ drop_stands z size (x ∷ xs) table d e stands r = by (did (dropping (sectors si
     by (went run answer) = subst (λ l. Stands z size l e) (sym (same_answer answer)) (dropping_stands z size (x ∷ xs) (length (x ∷ xs) - last_run (sectors size) (x ∷ xs)) d e stands (omega arith) run)
     by (broke f run answer) = never_good answer
 
-pub drop_breaks : DropBreaks
-drop_breaks z size [] d e after t stands r cut = (0, omega arith, omega arith, stays z size [] e after (subst (λ y. Stands z size [] y) (sym (run_over r).1) stands) cut)
-drop_breaks z size (x ∷ xs) d e after t stands r cut = by (did (dropping (sectors size) (without_run (sectors size) (x ∷ xs)) (length (x ∷ xs))) (without_run (sectors size) (x ∷ xs)) t d e r)
+pub drop_lies : DropLies
+drop_lies z size [] d e after t stands r cut = (0, omega arith, omega arith, stays z size [] e after (subst (λ y. Stands z size [] y) (sym (run_over r).1) stands) cut)
+drop_lies z size (x ∷ xs) d e after t stands r cut = by (did (dropping (sectors size) (without_run (sectors size) (x ∷ xs)) (length (x ∷ xs))) (without_run (sectors size) (x ∷ xs)) t d e r)
   where
     Answer : Type 0
     Answer = (i : ℕ) × (length (x ∷ xs) - last_run (sectors size) (x ∷ xs) ≤ i) × (i ≤ length (x ∷ xs)) × Lies z size (take i (x ∷ xs)) (image after)
 
     by : Did (dropping (sectors size) (without_run (sectors size) (x ∷ xs)) (length (x ∷ xs))) (without_run (sectors size) (x ∷ xs)) t d e → Answer
-    by (went run answer) = dropping_breaks z size (x ∷ xs) (length (x ∷ xs) - last_run (sectors size) (x ∷ xs)) d e after (good tt) stands (omega arith) run cut
-    by (broke f run answer) = dropping_breaks z size (x ∷ xs) (length (x ∷ xs) - last_run (sectors size) (x ∷ xs)) d e after (refused f) stands (omega arith) run cut
+    by (went run answer) = dropping_lies z size (x ∷ xs) (length (x ∷ xs) - last_run (sectors size) (x ∷ xs)) d e after (good tt) stands (omega arith) run cut
+    by (broke f run answer) = dropping_lies z size (x ∷ xs) (length (x ∷ xs) - last_run (sectors size) (x ∷ xs)) d e after (refused f) stands (omega arith) run cut
 
 -- SPOILING
 
@@ -134,12 +135,12 @@ spoil_stays z size d e after shape r cut = by (lifts (spoiling (sectors size)) (
         invalid_opens z size (image after) shape (sym (settled_single (put d 0 (header false (sectors size)) s.0) 0 (image after 0) s.1 (cut.one_of 0)) ∙ read)
     by (broke f run answer) = never_good answer
 
-pub spoil_breaks : SpoilBreaks
-spoil_breaks z size es d e after t stands r cut = by (lifts (spoiling (sectors size)) t d e r)
+pub spoil_lies : SpoilLies
+spoil_lies z size es d e after t stands r cut = by (lifts (spoiling (sectors size)) t d e r)
   where
     by : Did {A = Unit {0}} (spoiling (sectors size)) tt t d e → Lies z size es (image after) ⊎ (found z (image after) ≡ refused (because 6 0 0))
-    by (went run answer) = spoiling_breaks z size es d e after (good tt) stands run cut
-    by (broke f run answer) = spoiling_breaks z size es d e after (refused f) stands run cut
+    by (went run answer) = spoiling_lies z size es d e after (good tt) stands run cut
+    by (broke f run answer) = spoiling_lies z size es d e after (refused f) stands run cut
 
 -- MAKING
 
@@ -150,9 +151,9 @@ make_stands z size d e shape r = by (lifts (making (sectors size)) (good tt) d e
     by (went run answer) = making_stands z size d e shape run
     by (broke f run answer) = never_good answer
 
-pub make_breaks : MakeBreaks
-make_breaks z size d e after t shape r cut = by (lifts (making (sectors size)) t d e r)
+pub make_lies : MakeLies
+make_lies z size d e after t shape r cut = by (lifts (making (sectors size)) t d e r)
   where
-    by : Did {A = Unit {0}} (making (sectors size)) tt t d e → LeftByMaking z size d after
-    by (went run answer) = making_breaks z size d e after (good tt) shape run cut
-    by (broke f run answer) = making_breaks z size d e after (refused f) shape run cut
+    by : Did {A = Unit {0}} (making (sectors size)) tt t d e → LyingByMaking z size d after
+    by (went run answer) = making_lies z size d e after (good tt) shape run cut
+    by (broke f run answer) = making_lies z size d e after (refused f) shape run cut

@@ -2,7 +2,7 @@
 use Rattle.std.proofs.Common.{◌≡◌, ℕ, ◌+◌, ◌*◌, ◌<◌, ◌≤◌, true, List, [], ◌∷◌, ◌++◌, length, sym, refl, ap, ◌∙◌, subst, subst₂, ⊎_elim, arith}
 use Rattle.std.specs.List.{ContainsAt as Has}
 use Rattle.std.proofs.lemmas.Bool.{cases_Bool, cond-true, cond-false}
-use Rattle.device.specs.Disk.{Bytes, Disk, possibilities, Told, good, refused, Refusal}
+use Rattle.device.specs.Disk.{Bytes, Disk, possibilities, Told, good, refused, Refusal, Cut}
 use Rattle.device.specs.Plans.{Runs, one}
 use Rattle.device.specs.Sectors.{only}
 use Rattle.layout.specs.declared.chunk.ChunkSize.{ChunkSize}
@@ -18,6 +18,7 @@ use Rattle.store.specs.Steps.{Contents, shape_of, cleaning, opening}
 use Rattle.recovery.specs.Readings.{Image, image, scanned, next}
 use Rattle.recovery.specs.Standing.{Within, ValidHeader, Finds}
 use Rattle.recovery.specs.Breaks.{Sure, CutSure, OpeningBreaks}
+use Rattle.recovery.specs.Lying.{Legible, OpeningLies}
 use Rattle.recovery.proofs.Again.{End, end_of, scanned_again}
 use Rattle.recovery.proofs.Allowed.{Writes, run_within, cut_within}
 use Rattle.recovery.proofs.Calls.{Did, went, broke, never_good as never}
@@ -134,24 +135,41 @@ sure_within A d sure h at b has = subst (A at) (only (subst (λ o. Has (o ++ ((d
 abbrev LegibleAt : ChunkSize → List Exception → ℕ → Bytes → Type 0
 LegibleAt size es at b = (a q : ℕ) → q < sectors size → per_area (sectors size) * a ≤ length es → at ≡ area_start (sectors size) a + q → Small b
 
+-- what is left of an opening that breaks off
+module _ (z : Sizes) (size : ChunkSize) (es : List Exception) (d e after : Disk) (t : Told StoreRefusal Contents) (same : z.cow ≡ d.count) (sure : Sure d) (finds : Finds z size es (image d)) (r : Runs one (opening z 8192) d t e) (cut : Cut e after) where
+  p : Parts z size es (image d)
+  p = parts z size es (image d) finds
+
+  found_again : Finds z size es (image after)
+  found_again =
+      let s = shape_of z size in
+      let x = p.ending in
+      let k = known z size es d same p in
+      let ends = k.ends in
+      let long : (q : ℕ) → q < width s → length (image d (area_start (width s) x.area + q)) ≡ 512 = λ q l. sure.long _ (k.on x.area q (omega (arith, k.count)) l) in
+      let ran = opened z size x d p.head p.scan t e r in
+      let all = cut_within (Tidy s (image d) x) (opened_within (Tidy s (image d) x) z size x t d e (cleaning_tidies s (image d) x ends long) (sure_within (Tidy s (image d) x) d sure (tidy_before s (image d) x ends long)) ran) cut in
+      let again = scanned_again s (image d) (image after) x (tidy_keeps s (image d) x ends long (image after) all) most_areas 0 [] p.scan in
+      let head : header_found z (image after 0) ≡ good size = ap (header_found z) ((all 0).head refl) ∙ p.head in
+      found_by z (image after) size _ head again ∙ ap (λ l. good (record { size = size; table = l })) p.list
+
+  still_legible : Legible size es (image d) → Legible size es (image after)
+  still_legible bytes =
+      let x = p.ending in
+      let k = known z size es d same p in
+      let ran = opened z size x d p.head p.scan t e r in
+      let small : Small x.bytes = subst Small (sym k.ends.bytes) (gathered_small (image d) (sectors size) (area_start (sectors size) x.area) [] tt (λ q l. bytes x.area q l (omega (arith, k.count)))) in
+      let legible = cut_within (LegibleAt size es) (opened_within (LegibleAt size es) z size x t d e (cleaning_writes (LegibleAt size es) (λ at b h a q l le is. h) (sectors size) x small) (sure_within (LegibleAt size es) d sure (λ at a q l le is. subst (λ t. Small (image d t)) (sym is) (bytes a q l le))) ran) cut in
+      λ a q l le. legible _ a q l le refl
+
 pub opening_breaks : OpeningBreaks
-opening_breaks z size es d e after t same sure lies r cut =
-    let p = parts z size es (image d) lies.finds in
-    let s = shape_of z size in
-    let x = p.ending in
-    let k = known z size es d same p in
-    let ends = k.ends in
-    let long : (q : ℕ) → q < width s → length (image d (area_start (width s) x.area + q)) ≡ 512 = λ q l. sure.long _ (k.on x.area q (omega (arith, k.count)) l) in
-    let ran = opened z size x d p.head p.scan t e r in
-    let all = cut_within (Tidy s (image d) x) (opened_within (Tidy s (image d) x) z size x t d e (cleaning_tidies s (image d) x ends long) (sure_within (Tidy s (image d) x) d sure (tidy_before s (image d) x ends long)) ran) cut in
-    let small : Small x.bytes = subst Small (sym ends.bytes) (gathered_small (image d) (width s) (area_start (width s) x.area) [] tt (λ q l. lies.bytes x.area q l (omega (arith, k.count)))) in
-    let legible = cut_within (LegibleAt size es) (opened_within (LegibleAt size es) z size x t d e (cleaning_writes (LegibleAt size es) (λ at b h a q l le is. h) (sectors size) x small) (sure_within (LegibleAt size es) d sure (λ at a q l le is. subst (λ t. Small (image d t)) (sym is) (lies.bytes a q l le))) ran) cut in
-    let again = scanned_again s (image d) (image after) x (tidy_keeps s (image d) x ends long (image after) all) most_areas 0 [] p.scan in
-    let head : header_found z (image after 0) ≡ good size = ap (header_found z) ((all 0).head refl) ∙ p.head in
-    record {
-      finds = found_by z (image after) size _ head again ∙ ap (λ l. good (record { size = size; table = l })) p.list;
-      bytes = λ a q l le. legible _ a q l le refl;
-    }
+opening_breaks z size es d e after t same sure finds r cut = found_again z size es d e after t same sure finds r cut
+
+pub opening_lies : OpeningLies
+opening_lies z size es d e after t same sure lies r cut = record {
+  finds = found_again z size es d e after t same sure lies.finds r cut;
+  bytes = still_legible z size es d e after t same sure lies.finds r cut lies.bytes;
+}
 
 pub cut_sure : CutSure
 cut_sure d after whole cut = record { single = cut.single; long = λ s l. whole.long s (image after s) (subst (λ n. s < n) cut.same_count l) (cut.one_of s) }

@@ -17,8 +17,9 @@ use Rattle.store.specs.Image.{Sizes}
 use Rattle.store.specs.Steps.{shape_of, finished, flushing, unwinding, dropping}
 use Rattle.recovery.specs.Readings.{Image, image, area_bytes}
 use Rattle.recovery.specs.Holding.{Holds}
-use Rattle.recovery.specs.Standing.{Within, ValidHeader, Standing, Listed, Stands, Legible, Lies}
-use Rattle.recovery.specs.Breaks.{DroppingBreaks, DroppingStands}
+use Rattle.recovery.specs.Standing.{Within, ValidHeader, Standing, Listed, Stands}
+use Rattle.recovery.specs.Breaks.{DroppingStands}
+use Rattle.recovery.specs.Lying.{Legible, Lies, DroppingLies}
 use Rattle.recovery.proofs.Allowed.{Writes, on_good, run_within, then_writes, cut_within}
 use Rattle.recovery.proofs.Finds.{sectors_within, finds_what_it_holds}
 use Rattle.recovery.proofs.Legible.{pic_small}
@@ -27,7 +28,7 @@ use Rattle.recovery.proofs.Places.{same_sector, same_area, not_header, placed, p
 use Rattle.recovery.proofs.Prefixes.{long_take, item_take, listed_take, pic_take}
 use Rattle.recovery.proofs.Sectors.{Small}
 use Rattle.recovery.proofs.Sheets.{length_pic, entry_in_area}
-use Rattle.recovery.proofs.Stand.{standing_opens, held_opens}
+use Rattle.recovery.proofs.Stand.{standing_lies, held_opens}
 use Rattle.recovery.proofs.Zeros.{settled_single, put_here, put_elsewhere, flushed_good, written_good, then_good}
 
 module _ (z : Sizes) (size : ChunkSize) (es : List Exception) (k : ℕ) where
@@ -175,15 +176,15 @@ module _ (z : Sizes) (size : ChunkSize) (es : List Exception) (k : ℕ) where
       mixed_opens : (i : ℕ) × (k ≤ i) × (i ≤ length es) × Lies z size (take i es) m
       mixed_opens =
           ⊎_elim
-          (λ none. (length es, few, le_refl _, subst (λ l. Lies z size l m) (sym (take_all (length es) es (le_refl _))) (standing_opens z size es m listed (all_shown none))))
+          (λ none. (length es, few, le_refl _, subst (λ l. Lies z size l m) (sym (take_all (length es) es (le_refl _))) (standing_lies z size es m listed (all_shown none))))
           (λ f.
           let within : max k (32 * f.at) ≤ length es = let b = f.below in omega arith in
           let l = listed_take es (max k (32 * f.at)) within z size listed in
           (max k (32 * f.at), omega arith, within, record { finds = held_opens z size _ m listed.shape ((all 0).head refl) (finds_what_it_holds _ m _ (holds f) l.sound); bytes = legible _ within }))
           (first (length es / 32 + 1) (le_refl _))
 
-pub dropping_breaks : DroppingBreaks
-dropping_breaks z size es k d e after t stands few r cut =
+pub dropping_lies : DroppingLies
+dropping_lies z size es k d e after t stands few r cut =
     let before : Within (Mixed z size es k) d = λ s b has. let here = stands.sectors s b has in record { head = here.head; areas = λ a q l le at. inl (here.areas a q l le at) } in
     mixed_opens z size es k (image after) (cut_within _ (run_within _ (dropping_writes z size es k (length es)) r before) cut) few stands.listed
 

@@ -14,13 +14,14 @@ use Rattle.exceptions.specs.Table.{fills_area}
 use Rattle.store.specs.Image.{Sizes}
 use Rattle.store.specs.Steps.{shape_of, finished, flushing, storing, preparing, entering}
 use Rattle.recovery.specs.Readings.{Image, image}
-use Rattle.recovery.specs.Standing.{Within, ValidHeader, Standing, Listed, Stands, Lies}
-use Rattle.recovery.specs.Breaks.{more, EnteringBreaks, EnteringStands}
+use Rattle.recovery.specs.Standing.{Within, ValidHeader, Standing, Listed, Stands}
+use Rattle.recovery.specs.Breaks.{more, EnteringStands}
+use Rattle.recovery.specs.Lying.{Lies, EnteringLies}
 use Rattle.recovery.proofs.Allowed.{Writes, on_good, run_within, by_way, cut_within}
 use Rattle.recovery.proofs.Finds.{sectors_within}
 use Rattle.recovery.proofs.Pictures.{pic_past, length_more, pic_more}
 use Rattle.recovery.proofs.Places.{same_sector, same_area, not_header, placed, placed_at, beyond, fills_mod, fills_div}
-use Rattle.recovery.proofs.Stand.{standing_opens}
+use Rattle.recovery.proofs.Stand.{standing_lies}
 use Rattle.recovery.proofs.Zeros.{zeros_read, settled_single, put_here, flushed_good, stored_good, then_good}
 
 -- zeros over n sectors
@@ -83,8 +84,8 @@ module _ (z : Sizes) (size : ChunkSize) (es : List Exception) (x : Exception) wh
       let at : sectors size * (j / sectors size) + j % sectors size ≡ j = placed (sectors size) j some in
       let longer = length_more es x in
       ⊎_elim
-      (λ e. inl (standing_opens z size es m old (resolved m es (omega arith) (λ k ne. (refl, pic_more es x k ne)) (e ∙ ap (pic es) at) all)))
-      (λ e. inr (standing_opens z size (more es x) m new (resolved m (more es x) (omega arith) (λ k ne. (sym (pic_more es x k ne), refl)) (e ∙ ap (pic (more es x)) at) all)))
+      (λ e. inl (standing_lies z size es m old (resolved m es (omega arith) (λ k ne. (refl, pic_more es x k ne)) (e ∙ ap (pic es) at) all)))
+      (λ e. inr (standing_lies z size (more es x) m new (resolved m (more es x) (omega arith) (λ k ne. (sym (pic_more es x k ne), refl)) (e ∙ ap (pic (more es x)) at) all)))
       ((all (area_place (sectors size) j)).areas (j / sectors size) (j % sectors size) (mod-lt j some) (let h = entry_in_list in omega arith) refl)
 
   -- after the first flush the list stands with one possibility a sector, and the next area has zeros where the list is to reach it
@@ -125,8 +126,8 @@ module _ (z : Sizes) (size : ChunkSize) (es : List Exception) (x : Exception) wh
         inr (ap (pic (more es x)) (sym (placed (sectors size) j some) ∙ (λ i. sectors size * area i + sector i)));
   }
 
-pub entering_breaks : EnteringBreaks
-entering_breaks z size es x d e after t stands listed r cut =
+pub entering_lies : EnteringLies
+entering_lies z size es x d e after t stands listed r cut =
     let h = halves (preparing (fills_area c (length es)) c (length es / per_area c + 1)) (λ t. onward t (λ _. rest)) r in
     by h.mid h.between h.first h.rest
   where
@@ -140,7 +141,7 @@ entering_breaks z size es x d e after t stands listed r cut =
     Answer = Lies z size es (image after) ⊎ Lies z size (more es x) (image after)
 
     old : Within (Standing (shape_of z size) es) e → Answer
-    old w = inl (standing_opens z size es (image after) stands.listed (cut_within _ w cut))
+    old w = inl (standing_lies z size es (image after) stands.listed (cut_within _ w cut))
 
     flushed : (mid : Disk) → Within (Standing (shape_of z size) es) mid → ((a i : ℕ) → per_area c * a ≡ length es + 1 → i < c → image mid (area_start c a + i) ≡ replicate 512 0) → Went {B = Unit {0}} one tt flushes (λ _. storing (area_place c (length es / 32)) (pic (more es x) (length es / 32))) mid t e → Answer
     flushed mid w zeros (went_on f is q) =

@@ -13,7 +13,8 @@ use Rattle.store.specs.Image.{Sizes, well_shaped, all_zero, cleaned}
 use Rattle.store.specs.Refusals.{up}
 use Rattle.store.specs.Scanning.{Parsed, full, over, many, wrong, parsed, Ending, most_areas}
 use Rattle.store.specs.Steps.{Contents, shape_of, finished, flushing, cleaning}
-use Rattle.recovery.specs.Readings.{image, area_bytes, found, OpeningFinds}
+use Rattle.recovery.specs.Readings.{image, area_bytes, found}
+use Rattle.recovery.specs.Lying.{OpeningAnswers}
 use Rattle.recovery.proofs.Calls.{Did, went, broke}
 use Rattle.recovery.proofs.Cleans.{taken, Known, known}
 use Rattle.recovery.proofs.Gone.{Gone, Passes, refused_gone, left_gone}
@@ -100,8 +101,8 @@ cleaning_ends c x {d} {e} {t} on long inside r =
 same_refusal : {f g : Refusal} → ◌≡◌ {A = Told Refusal (Unit {0})} (refused f) (refused g) → f ≡ g
 same_refusal h = cc
 
-pub opening_finds : OpeningFinds
-opening_finds z d e t same some long r = by (outcome z d e t r)
+pub opening_answers : OpeningAnswers
+opening_answers z d e t same some long r = by (outcome z d e t r)
   where
     Answer : Type 0
     Answer = ((t ≡ found z (image d)) × (e.on ≡ d.on)) ⊎ ((p : ℕ) × (t ≡ refused (up (refusal 3 p))) × (e.on ≡ false))

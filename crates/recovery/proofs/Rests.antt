@@ -24,7 +24,7 @@ use Rattle.recovery.proofs.Calls.{went, broke}
 use Rattle.recovery.proofs.Cleans.{Parts, parts, Opened, unread, cleaned, opened}
 use Rattle.recovery.proofs.Learns.{learnt_none, scanned_fine}
 use Rattle.recovery.proofs.Sheets.{length_pic, length_area, sector_of_area}
-use Rattle.recovery.proofs.Stand.{standing_opens}
+use Rattle.recovery.proofs.Stand.{standing_lies}
 
 -- a picture has zeros after its entries
 zero_past : (es : List Exception) (j r : ℕ) → 16 * length (take 32 (drop (32 * j) es)) ≤ r → r < 512 → get_or (pic es j) r 0 ≡ 0
@@ -72,7 +72,7 @@ opening_standing z size es d e t stands r = by (opened z size x d p.head p.scan 
     at k = stands.sectors k (image d k) (last_has (d.cells k))
 
     p : Parts z size es (image d)
-    p = parts z size es (image d) (standing_opens z size es (image d) stands.listed at).finds
+    p = parts z size es (image d) (standing_lies z size es (image d) stands.listed at).finds
 
     x : Ending
     x = p.ending

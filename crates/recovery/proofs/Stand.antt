@@ -11,7 +11,8 @@ use Rattle.store.specs.Scanning.{Ending, most_areas}
 use Rattle.store.specs.Steps.{shape_of}
 use Rattle.recovery.specs.Readings.{Image, area_bytes, scanned, next, found}
 use Rattle.recovery.specs.Holding.{FoundAgain, Pictured}
-use Rattle.recovery.specs.Standing.{ValidHeader, Standing, Listed, Finds, StandingOpens}
+use Rattle.recovery.specs.Standing.{ValidHeader, Standing, Listed, Finds}
+use Rattle.recovery.specs.Lying.{StandingLies}
 use Rattle.recovery.proofs.Finds.{finds_what_it_holds}
 use Rattle.recovery.proofs.Legible.{pic_small}
 use Rattle.recovery.proofs.Sectors.{Small}
@@ -25,8 +26,8 @@ held_opens z size es m shape head again =
     ap (λ t. next t (λ size. next (scanned (shape_of z size) m most_areas 0 []) (λ e. good (record { size = size; table = e.table })))) headed
     ∙ ap (λ t. next t (λ e. good (record { size = size; table = e.table }))) again.answer
 
-pub standing_opens : StandingOpens
-standing_opens z size es m listed stand =
+pub standing_lies : StandingLies
+standing_lies z size es m listed stand =
     let s = shape_of z size in
     let pictured : Pictured s m es = record { sectors = λ a q h le. (stand _).areas a q h le refl } in
     record {

@@ -21,7 +21,8 @@ use Rattle.store.specs.Steps.{Contents, shape_of, finished, flushing, cleaning}
 use Rattle.recovery.specs.Readings.{Image, image, area_bytes}
 use Rattle.recovery.specs.Holding.{Sound}
 use Rattle.recovery.specs.Standing.{ValidHeader, Standing, Listed, Stands}
-use Rattle.recovery.specs.Breaks.{Sure, OpeningStands}
+use Rattle.recovery.specs.Breaks.{Sure}
+use Rattle.recovery.specs.Lying.{LegibleStands}
 use Rattle.recovery.proofs.Again.{End}
 use Rattle.recovery.proofs.Calls.{Did, went, broke, never_good}
 use Rattle.recovery.proofs.Cleans.{Parts, parts, known, Opened, unread, cleaned as ran_cleaning, opened}
@@ -177,8 +178,8 @@ module _ (z : Sizes) (size : ChunkSize) (es : List Exception) (x : Ending) (d e 
     areas = λ a q l le at. ap (image e) at ∙ in_area a q l le;
   }
 
-pub opening_stands : OpeningStands
-opening_stands z size es d e low few same sure small r =
+pub legible_stands : LegibleStands
+legible_stands z size es d e low few same sure small r =
     let p = parts z size es (image d) (good_finds z d e _ r) in
     by p (opened z size p.ending d p.head p.scan _ e r)
   where

@@ -1,6 +1,6 @@
 -- What a call of a store leaves to be found, good or broken off, and after any power cut.
 use Rattle.std.specs.Prelude.{◌≡◌, ℕ, ◌/◌, ◌^◌, ◌<◌, ◌≤◌, true, false, ◌⊎◌, List, [], ◌∷◌, ◌++◌, length, take, Some}
-use Rattle.std.specs.List.{ContainsAt as Has}
+use Rattle.std.specs.List.{AllByRecursion, ContainsAt as Has}
 use Rattle.device.specs.Disk.{Bytes, Disk, possibilities, Told, good, refused, Refusal, Whole, Cut}
 use Rattle.device.specs.Plans.{Runs, one}
 use Rattle.layout.specs.declared.chunk.ChunkSize.{ChunkSize}
@@ -11,7 +11,7 @@ use Rattle.store.specs.Image.{Sizes, well_shaped}
 use Rattle.store.specs.Refusals.{StoreRefusal, because}
 use Rattle.store.specs.Steps.{Contents, shape_of, opening, making, entering, dropping, spoiling}
 use Rattle.recovery.specs.Readings.{image, found}
-use Rattle.recovery.specs.Standing.{Within, Standing, Listed, Stands, Legible, Lies}
+use Rattle.recovery.specs.Standing.{Within, Standing, Listed, Stands, Finds}
 
 -- the list with one more exception
 abbrev pub more : List Exception → Exception → List Exception
@@ -29,7 +29,7 @@ abbrev pub EnteringBreaks : Type 0
 EnteringBreaks =
     (z : Sizes) (size : ChunkSize) (es : List Exception) (x : Exception) (d e after : Disk) (t : Told Refusal (Unit {0})) →
     Stands z size es d → Listed z size (more es x) → Runs one (entering (sectors size) (more es x) (length es)) d t e → Cut e after →
-    Lies z size es (image after) ⊎ Lies z size (more es x) (image after)
+    Finds z size es (image after) ⊎ Finds z size (more es x) (image after)
 
 -- entering, when it is good: the longer list stands
 abbrev pub EnteringStands : Type 0
@@ -44,7 +44,7 @@ MakingStands = (z : Sizes) (size : ChunkSize) (d e : Disk) → well_shaped z (se
 -- what may be left of a making that began on d: all is as it was, or there is no store, or an empty list
 abbrev pub LeftByMaking : Sizes → ChunkSize → Disk → Disk → Type 0
 LeftByMaking z size d after =
-    ((s : ℕ) → Has (possibilities (d.cells s)) (image after s)) ⊎ ((found z (image after) ≡ refused (because 10 0 0)) ⊎ Lies z size [] (image after))
+    ((s : ℕ) → Has (possibilities (d.cells s)) (image after s)) ⊎ ((found z (image after) ≡ refused (because 10 0 0)) ⊎ Finds z size [] (image after))
 
 -- making, wherever it breaks off
 abbrev pub MakingBreaks : Type 0
@@ -58,7 +58,7 @@ abbrev pub SpoilingBreaks : Type 0
 SpoilingBreaks =
     (z : Sizes) (size : ChunkSize) (es : List Exception) (d e after : Disk) (t : Told Refusal (Unit {0})) →
     Stands z size es d → Runs one (spoiling (sectors size)) d t e → Cut e after →
-    Lies z size es (image after) ⊎ (found z (image after) ≡ refused (because 6 0 0))
+    Finds z size es (image after) ⊎ (found z (image after) ≡ refused (because 6 0 0))
 
 -- dropping the exceptions from k on, when it is good: the beginning stands
 abbrev pub DroppingStands : Type 0
@@ -71,7 +71,7 @@ abbrev pub DroppingBreaks : Type 0
 DroppingBreaks =
     (z : Sizes) (size : ChunkSize) (es : List Exception) (k : ℕ) (d e after : Disk) (t : Told Refusal (Unit {0})) →
     Stands z size es d → k ≤ length es → Runs one (dropping (sectors size) (take k es) (length es)) d t e → Cut e after →
-    (i : ℕ) × (k ≤ i) × (i ≤ length es) × Lies z size (take i es) (image after)
+    (i : ℕ) × (k ≤ i) × (i ≤ length es) × Finds z size (take i es) (image after)
 
 -- one possibility a sector, of 512 bytes, as a power cut leaves them
 pub record Sure (d : Disk) : Type 0 where
@@ -86,13 +86,13 @@ CutSure = (d after : Disk) → Whole d → Cut d after → Sure after
 abbrev pub OpeningBreaks : Type 0
 OpeningBreaks =
     (z : Sizes) (size : ChunkSize) (es : List Exception) (d e after : Disk) (t : Told StoreRefusal Contents) →
-    z.cow ≡ d.count → Sure d → Lies z size es (image d) → Runs one (opening z 8192) d t e → Cut e after → Lies z size es (image after)
+    z.cow ≡ d.count → Sure d → Finds z size es (image d) → Runs one (opening z 8192) d t e → Cut e after → Finds z size es (image after)
 
 -- opening, when it is good: the list stands
 abbrev pub OpeningStands : Type 0
 OpeningStands =
     (z : Sizes) (size : ChunkSize) (es : List Exception) (d e : Disk) → z.origin < 2 ^ 32 → z.cow < 2 ^ 32 →
-    z.cow ≡ d.count → Sure d → Legible size es (image d) → Runs one (opening z 8192) d (good (record { size = size; table = es })) e → Stands z size es e
+    z.cow ≡ d.count → Sure d → ((s : ℕ) → s < d.count → AllByRecursion (λ b. b < 256) (image d s)) → Runs one (opening z 8192) d (good (record { size = size; table = es })) e → Stands z size es e
 
 -- opening where a list stands writes nothing
 abbrev pub OpeningStanding : Type 0

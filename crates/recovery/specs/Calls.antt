@@ -10,7 +10,7 @@ use Rattle.store.specs.Image.{Sizes, well_shaped}
 use Rattle.store.specs.Refusals.{StoreRefusal, because, up}
 use Rattle.store.specs.Steps.{shape_of, making, spoiling, enter, drop_run}
 use Rattle.recovery.specs.Readings.{image, found}
-use Rattle.recovery.specs.Standing.{Stands, Lies}
+use Rattle.recovery.specs.Standing.{Stands, Finds}
 use Rattle.recovery.specs.Breaks.{more, LeftByMaking}
 
 -- making a store, when it is good: an empty list stands
@@ -35,7 +35,7 @@ abbrev pub EnterBreaks : Type 0
 EnterBreaks =
     (z : Sizes) (size : ChunkSize) (es : List Exception) (old : ℕ) (d e after : Disk) (t : Told StoreRefusal (List Exception)) → z.origin < 2 ^ 32 → z.cow < 2 ^ 32 →
     Stands z size es d → Runs one (enter (shape_of z size) es old) d t e → Cut e after →
-    Lies z size es (image after) ⊎ ((p : ℕ) × (room entries_at_most (sectors size) (z.cow / sectors size) es ≡ Some p) × Lies z size (more es (record { old = old; new = p })) (image after))
+    Finds z size es (image after) ⊎ ((p : ℕ) × (room entries_at_most (sectors size) (z.cow / sectors size) es ≡ Some p) × Finds z size (more es (record { old = old; new = p })) (image after))
 
 -- dropping the last run, when it is good: the list that is remembered stands
 abbrev pub DropStands : Type 0
@@ -48,7 +48,7 @@ abbrev pub DropBreaks : Type 0
 DropBreaks =
     (z : Sizes) (size : ChunkSize) (es : List Exception) (d e after : Disk) (t : Told StoreRefusal (List Exception)) →
     Stands z size es d → Runs one (drop_run (sectors size) es) d t e → Cut e after →
-    (i : ℕ) × (length es - last_run (sectors size) es ≤ i) × (i ≤ length es) × Lies z size (take i es) (image after)
+    (i : ℕ) × (length es - last_run (sectors size) es ≤ i) × (i ≤ length es) × Finds z size (take i es) (image after)
 
 -- spoiling, when it is good: whatever a power cut leaves, the store is invalid
 abbrev pub SpoilStays : Type 0
@@ -61,4 +61,4 @@ abbrev pub SpoilBreaks : Type 0
 SpoilBreaks =
     (z : Sizes) (size : ChunkSize) (es : List Exception) (d e after : Disk) (t : Told StoreRefusal (Unit {0})) →
     Stands z size es d → Runs one (lifted up (spoiling (sectors size))) d t e → Cut e after →
-    Lies z size es (image after) ⊎ (found z (image after) ≡ refused (because 6 0 0))
+    Finds z size es (image after) ⊎ (found z (image after) ≡ refused (because 6 0 0))

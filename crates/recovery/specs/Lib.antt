@@ -3,4 +3,5 @@ pub mod Holding
 pub mod Standing
 pub mod Breaks
 pub mod Calls
+pub mod Lying
 pub mod Data

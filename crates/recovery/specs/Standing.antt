@@ -43,15 +43,6 @@ pub record Stands (z : Sizes) (size : ChunkSize) (es : List Exception) (d : Disk
 abbrev pub Finds : Sizes → ChunkSize → List Exception → Image → Type 0
 Finds z size es m = found z m ≡ good (record { size = size; table = es })
 
--- the sectors of the areas, up to the one where a list ends, hold bytes
-abbrev pub Legible : ChunkSize → List Exception → Image → Type 0
-Legible size es m = (a q : ℕ) → q < sectors size → per_area (sectors size) * a ≤ length es → AllByRecursion (λ b. b < 256) (m (area_start (sectors size) a + q))
-
--- opening finds a list in an image, in sectors that hold bytes
-pub record Lies (z : Sizes) (size : ChunkSize) (es : List Exception) (m : Image) : Type 0 where
-  pub finds : Finds z size es m
-  pub bytes : Legible size es m
-
 -- what stands is found
 abbrev pub StandingOpens : Type 0
-StandingOpens = (z : Sizes) (size : ChunkSize) (es : List Exception) (m : Image) → Listed z size es → ((s : ℕ) → Standing (shape_of z size) es s (m s)) → Lies z size es m
+StandingOpens = (z : Sizes) (size : ChunkSize) (es : List Exception) (m : Image) → Listed z size es → ((s : ℕ) → Standing (shape_of z size) es s (m s)) → Finds z size es m
