@@ -2,7 +2,7 @@
 use Rattle.std.proofs.Common.{◌≡◌, ℕ, zero, suc, ◌+◌, ◌-◌, ◌*◌, ◌/◌, ◌%◌, List, [], ◌∷◌, ◌++◌, length, drop, sym, refl, ap, ◌∙◌, subst, ap₂, append-nil, arith, length-drop}
 use Rattle.std.proofs.lemmas.List.{nil_from_length}
 use Rattle.device.specs.Disk.{Bytes, Disk, Fate, reads, way, Told, good, refused, Refusal, told_by, after_by}
-use Rattle.device.specs.Plans.{Plan, done, call, Ended, ended, astray, run, Runs, one, onward, gathering, spreading, Filled, filling, reading_into, writing_from}
+use Rattle.device.specs.Plans.{Plan, done, ended, run, Runs, one, onward, gathering, spreading, Filled, filling, reading_into, writing_from}
 use Rattle.device.proofs.Loops.{reading_whole, writing_whole, none_yet}
 use Rattle.device.proofs.Steps.{never}
 

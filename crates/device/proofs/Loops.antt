@@ -1,9 +1,9 @@
 -- The plans over ranges of sectors, one turn of the loop at a time.
-use Rattle.std.proofs.Common.{◌≡◌, ℕ, suc, ◌+◌, ◌-◌, ◌*◌, ◌/◌, ◌%◌, ◌^◌, ◌<◌, ◌≤◌, Bool, true, false, cond, eqb, ltb, [], ◌++◌, length, take, drop, replicate, sym, refl, ap, ◌∙◌, subst, arith, length-drop, take-append-drop, length-take, drop-drop, ltb-true}
+use Rattle.std.proofs.Common.{◌≡◌, ℕ, suc, ◌+◌, ◌-◌, ◌*◌, ◌/◌, ◌%◌, ◌<◌, ◌≤◌, Bool, true, false, cond, eqb, ltb, [], ◌++◌, length, take, drop, replicate, sym, refl, ap, ◌∙◌, subst, arith, length-drop, take-append-drop, length-take, drop-drop, ltb-true}
 use borrow.Rule.Slice.PartMut.{put_mid}
 use Rattle.std.proofs.lemmas.Slice.{take-put_mid, drop-put_mid}
 use Rattle.std.proofs.lemmas.Bool.{cond-true, cond-false, eq-eqb, ne_eqb}
-use Rattle.device.specs.Disk.{Bytes, Disk, Op, reads, writes, Way, refuses, at_sector, Told, good, refused, Refusal, refusal, told_by, Called, Whole}
+use Rattle.device.specs.Disk.{Bytes, Disk, Op, reads, writes, Way, refuses, at_sector, Told, good, refused, Refusal, refusal, told_by, Called}
 use Rattle.device.specs.Plans.{Plan, done, call, onward, Filled, zeroing, filling, spreading, reading_into, writing_from}
 
 turn : (n i : ℕ) → i < n → n - i ≡ suc (n - (i + 1))

@@ -1,10 +1,10 @@
 -- The calls that keep the rules are those that have a fate.
-use Rattle.std.proofs.Common.{◌≡◌, ℕ, ◌<◌, ◌≤◌, Bool, true, false, cond, eqb, ltb, ◌⊎◌, List, [], ◌∷◌, ◌++◌, length, sym, refl, ap, ◌∙◌, subst, inl, inr, ⊎_elim, arith}
+use Rattle.std.proofs.Common.{◌≡◌, ℕ, ◌<◌, Bool, true, false, cond, eqb, ltb, ◌⊎◌, List, [], ◌∷◌, length, sym, refl, ap, ◌∙◌, subst, inl, inr, ⊎_elim, arith}
 use Rattle.std.specs.List.{ContainsAt as Has}
 use Rattle.std.proofs.ByRecursion.{has_push_cases, has_append_left}
 use Rattle.std.proofs.lemmas.Bool.{eq-eqb, ne_eqb, le-ltb, cond-true, cond-false, cases_eq, cases_lt}
-use Rattle.device.specs.Disk.{Bytes, Cell, possibilities, kept, at, thin, grown, torn, Disk, Fate, Op, reads, writes, flushes, place, tests, Way, passes, leaves, refuses, stands, way, carried, broken, Told, Refusal, refusal, good, refused, told_by, after_by, Called, calm}
-use Rattle.device.specs.Rules.{Keeps, Takes, Tears, Settles, Every, OnlyAt, Left, Lost, Given, Good, Goes, Long, Here, Refuses, Obeys}
+use Rattle.device.specs.Disk.{Bytes, Cell, possibilities, kept, at, thin, grown, torn, Disk, Fate, Op, reads, writes, flushes, place, tests, Way, passes, leaves, refuses, way, carried, broken, Told, Refusal, good, told_by, after_by, Called, calm}
+use Rattle.device.specs.Rules.{Keeps, Tears, Left, Lost, Given, Good, Goes, Long, Here, Refuses, Obeys}
 use Rattle.device.specs.Ways.{way_here, goes_by}
 use Rattle.device.proofs.Possible.{kept_has, at_has, last_has, place_of, places_of, in_grown}
 

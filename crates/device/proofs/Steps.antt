@@ -4,7 +4,7 @@ use borrow.Author.Tests.{clash}
 use Rattle.device.specs.declared.fault.DeviceFault.{DeviceFault}
 use Rattle.device.specs.Disk.{Bytes, Disk, Fate, Op, way, Told, Refusal, refusal, refused, told_by, after_by, Called}
 use Rattle.device.specs.Answers.{told, number, where_at}
-use Rattle.device.specs.Plans.{Plan, done, call, World, Ended, ended, astray, run, Runs, bind, one, on}
+use Rattle.device.specs.Plans.{Plan, done, call, World, ended, astray, run, Runs, bind, one, on}
 
 -- from p at s, some calls lead to q at e, whatever is to come
 pub record Comes {W S A : Type 0} (w : World W S) (p : Plan W A) (s : S) (q : Plan W A) (e : S) : Type 0 where

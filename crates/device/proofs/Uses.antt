@@ -1,7 +1,7 @@
 -- What follows from a run.
-use Rattle.std.proofs.Common.{◌≡◌, ℕ, List, [], ◌∷◌, ◌++◌, sym, refl, ap, ◌∙◌, subst, ap₂, arith}
+use Rattle.std.proofs.Common.{◌≡◌, ℕ, List, [], ◌∷◌, refl, ◌∙◌, subst, arith}
 use Rattle.device.specs.Disk.{Bytes, Disk, Fate, Op, reads, writes, flushes, Way, passes, leaves, refuses, place, way, Told, Refusal, refusal, good, refused, told_by, after_by, answered, carried}
-use Rattle.device.specs.Plans.{Plan, done, call, World, Ended, ended, astray, run, Runs, bind, onward, one}
+use Rattle.device.specs.Plans.{Plan, done, call, World, ended, run, Runs, bind, onward, one}
 use Rattle.device.proofs.Steps.{never}
 
 -- what each call keeps, a run keeps

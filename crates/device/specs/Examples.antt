@@ -1,9 +1,9 @@
 -- The definitions on small closed examples.
 use Rattle.std.specs.Prelude.{◌≡◌, ℕ, ◌+◌, ◌*◌, Bool, true, false, List, [], ◌∷◌, ◌++◌, replicate, refl}
-use Rattle.device.specs.Disk.{Bytes, Cell, possibilities, Disk, Fate, calm, Op, reads, writes, flushes, way, off, Told, good, refused, Refusal, refusal, told_by, after_by}
+use Rattle.device.specs.Disk.{Bytes, possibilities, Disk, Fate, calm, Op, reads, writes, flushes, way, off, Told, good, refused, Refusal, refusal, told_by, after_by}
 use Rattle.device.specs.Plain.{plain, fit, fitness}
-use Rattle.device.specs.Fuse.{fused, passes_on, spent, blown_by}
-use Rattle.device.specs.Plans.{one, Ended, ended, run, zeroing, reading_into, writing_from}
+use Rattle.device.specs.Fuse.{passes_on, spent, blown_by}
+use Rattle.device.specs.Plans.{one, ended, run, zeroing, reading_into, writing_from}
 
 -- a sector full of a byte
 abbrev full : ℕ → Bytes

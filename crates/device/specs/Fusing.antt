@@ -2,7 +2,7 @@
 use Rattle.std.specs.Prelude.{◌≡◌, ℕ, suc, ◌<◌, ◌≤◌, Bool, true, false, cond, not, ◌&&◌, List, [], ◌∷◌, map, length, get_or, ◌==◌, nat_lt, slice_index_or, refl}
 use Rattle.std.proofs.Common.{sym, ap, ◌∙◌, ⊎_elim}
 use Rattle.std.proofs.lemmas.Bool.{eq-eqb, ne_eqb, cond-true, cond-false, cases_eq, both_ways, and_left, and_right, le-ltb, not_from_true}
-use Rattle.device.specs.Disk.{Bytes, Cell, Disk, Fate, at, thin, torn, Op, reads, writes, flushes, place, tests, at_sector, Way, leaves, refuses, stands, way, Told, Refusal, refusal, good, refused, told_by, after_by, Called, Whole, calm}
+use Rattle.device.specs.Disk.{Bytes, Cell, Disk, Fate, thin, torn, Op, reads, writes, flushes, place, tests, at_sector, Way, leaves, refuses, stands, Told, Refusal, refusal, refused, told_by, after_by, Called, Whole, calm}
 use Rattle.device.specs.Answers.{sector_test}
 use Rattle.device.specs.Fuse.{fused, passes_on, blown_by, Burnt}
 use Rattle.device.specs.Ways.{way_here, goes_by, stopped}

@@ -1,5 +1,5 @@
 -- A plain device: bytes in whole sectors, one possibility each.
-use Rattle.std.specs.Prelude.{ℕ, ◌+◌, ◌*◌, ◌/◌, ◌%◌, ◌^◌, Bool, true, false, cond, ◌&&◌, List, [], ◌++◌, length, take, drop, replicate, vec_items, ◌==◌, nat_lt}
+use Rattle.std.specs.Prelude.{ℕ, ◌+◌, ◌*◌, ◌/◌, ◌%◌, ◌^◌, Bool, cond, ◌&&◌, [], ◌++◌, length, take, drop, replicate, vec_items, ◌==◌, nat_lt}
 use Rattle.device.specs.declared.plain.PlainDevice.{PlainDevice}
 use Rattle.device.specs.Disk.{Bytes, Disk, Told, good, refused, Refusal, refusal}
 

@@ -1,7 +1,7 @@
 -- The device calls that code makes, in their order, up to the first refusal: a tree, since what comes next may go by each answer.
-use Rattle.std.specs.Prelude.{◌≡◌, ℕ, zero, suc, ◌+◌, ◌*◌, ◌/◌, ◌%◌, Bool, true, false, cond, List, [], ◌∷◌, ◌++◌, length, take, drop, replicate, ◌==◌, refl}
+use Rattle.std.specs.Prelude.{◌≡◌, ℕ, zero, suc, ◌+◌, ◌*◌, ◌/◌, ◌%◌, cond, List, [], ◌∷◌, ◌++◌, length, take, drop, replicate, ◌==◌, refl}
 use Rattle.std.specs.List.{between}
-use Rattle.device.specs.Disk.{Bytes, Disk, Fate, Op, reads, writes, flushes, way, Told, good, refused, Refusal, refusal, told_by, after_by}
+use Rattle.device.specs.Disk.{Bytes, Disk, Fate, Op, reads, writes, way, Told, good, refused, Refusal, refusal, told_by, after_by}
 
 -- a plan ends with an answer, or calls a device and goes on by what it is told; W names the devices
 pub data Plan (W A : Type 0) : Type 0 where

@@ -1,5 +1,5 @@
 -- What a device may do in a call, rule by rule. That the calls which keep these rules are just those that have a fate is proved.
-use Rattle.std.specs.Prelude.{◌≡◌, ℕ, ◌<◌, true, false, ◌⊎◌, List, [], length, ◌≢◌}
+use Rattle.std.specs.Prelude.{◌≡◌, ℕ, ◌<◌, true, false, ◌⊎◌, [], length, ◌≢◌}
 use Rattle.std.specs.List.{ContainsAt as Has}
 use Rattle.device.specs.Disk.{Bytes, Cell, possibilities, Disk, Op, reads, writes, flushes, place, Told, Refusal, refusal, good, refused, Called}
 

@@ -1,8 +1,8 @@
 -- The ways of a call by its tests.
-use Rattle.std.specs.Prelude.{◌≡◌, ℕ, ◌<◌, ◌≤◌, Bool, true, false, cond, List, [], ◌∷◌, length, ◌==◌, nat_eq, nat_lt, refl}
+use Rattle.std.specs.Prelude.{◌≡◌, ℕ, ◌<◌, Bool, true, false, cond, length, ◌==◌, nat_eq, nat_lt, refl}
 use Rattle.std.proofs.Common.{sym, ap, subst, ◌∙◌, arith, eqb-true, ltb-true}
 use Rattle.std.proofs.lemmas.Bool.{eq-eqb, lt-ltb, cond-true, cond-false}
-use Rattle.device.specs.Disk.{Bytes, Disk, Fate, Op, reads, writes, flushes, place, at_sector, Way, passes, leaves, refuses, stands, way, Told, Refusal, refusal, good, refused, told_by, after_by, Called, Calmly, calm}
+use Rattle.device.specs.Disk.{Bytes, Disk, Fate, Op, reads, writes, flushes, place, at_sector, Way, refuses, stands, way, Told, Refusal, refusal, good, refused, told_by, after_by, Called, Calmly, calm}
 use Rattle.device.specs.Answers.{sector_test, power_test}
 
 pub way_here : (len s : ℕ) (d : Disk) (w : Way) → len ≡ 512 → s < d.count → at_sector len s d w ≡ w

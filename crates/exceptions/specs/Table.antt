@@ -1,5 +1,5 @@
 -- The list of exceptions of a store, in the order in which they were entered. Below, c is the sectors of a chunk.
-use Rattle.std.specs.Prelude.{◌≡◌, ℕ, zero, suc, ◌+◌, ◌-◌, ◌*◌, ◌/◌, ◌%◌, ◌^◌, ◌<◌, max, Bool, true, false, cond, not, ◌&&◌, List, [], ◌∷◌, length, get_or, take, drop, is_some, Some, None, Option, ◌==◌, nat_lt, slice_index_or}
+use Rattle.std.specs.Prelude.{ℕ, zero, suc, ◌+◌, ◌-◌, ◌*◌, ◌/◌, ◌%◌, ◌^◌, ◌<◌, max, Bool, cond, not, ◌&&◌, List, [], ◌∷◌, length, get_or, take, drop, is_some, Some, None, Option, ◌==◌, nat_lt, slice_index_or}
 use Rattle.layout.specs.declared.exception.Exception.{Exception}
 use Rattle.layout.specs.Chunks.{per_area, area_chunk, is_area}
 use Rattle.layout.specs.Entries.{nothing}

@@ -1,5 +1,5 @@
 -- The definitions on small closed examples.
-use Rattle.std.specs.Prelude.{◌≡◌, ℕ, Bool, true, false, List, [], ◌∷◌, ◌++◌, length, take, drop, replicate, Some, None, Option, refl}
+use Rattle.std.specs.Prelude.{◌≡◌, ℕ, true, false, List, [], ◌∷◌, ◌++◌, take, drop, replicate, Some, None, refl}
 use Rattle.device.specs.Disk.{Bytes, good, refused}
 use Rattle.layout.specs.declared.chunk.ChunkSize.TheVariants.{Eight, Sixteen}
 use Rattle.layout.specs.declared.exception.Exception.{Exception}

@@ -1,5 +1,5 @@
 -- The first sector of the COW device.
-use Rattle.std.specs.Prelude.{◌≡◌, ℕ, Bool, true, false, cond, not, List, ◌++◌, take, replicate, Some, None, Ok, Err, codes, Option, Result, ◌==◌, nat_lt}
+use Rattle.std.specs.Prelude.{◌≡◌, ℕ, Bool, true, false, cond, ◌++◌, take, replicate, Some, None, Ok, Err, codes, Option, Result, ◌==◌, nat_lt}
 use Rattle.std.specs.List.{between}
 use Rattle.std.specs.Str.{bytes_eq}
 use Rattle.device.specs.Disk.{Bytes, Told, good, refused}

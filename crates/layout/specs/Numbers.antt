@@ -1,5 +1,5 @@
 -- Little-endian numbers.
-use Rattle.std.specs.Prelude.{ℕ, zero, suc, ◌+◌, ◌*◌, ◌/◌, ◌%◌, List, [], ◌∷◌}
+use Rattle.std.specs.Prelude.{ℕ, zero, suc, ◌+◌, ◌*◌, ◌/◌, ◌%◌, [], ◌∷◌}
 use Rattle.device.specs.Disk.{Bytes}
 
 -- a number in w bytes, the lowest first

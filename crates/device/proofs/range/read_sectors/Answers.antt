@@ -1,4 +1,4 @@
-use Rattle.std.proofs.Common.{◌≡◌, ◌+◌, ◌*◌, ◌≤◌, length, sym, ◌∙◌, arith}
+use Rattle.std.proofs.Common.{◌≡◌, ◌+◌, ◌*◌, ◌≤◌, length, ◌∙◌, arith}
 use Rattle.device.proofs.Steps.{same, ◌⨾◌, called, ends, ends_as, passed_on}
 use Rattle.device.proofs.Loops.{reading_whole, reading_part, filling_more, filling_none, filled_more, put_back, part_long, whole_read, read_here}
 use Rattle.device.proofs.range.read_sectors.Goals as goal

@@ -1,4 +1,3 @@
-use Rattle.std.proofs.Common.{◌/◌, length}
 use Rattle.device.specs.Plans.{reading_into, one}
 use Rattle.device.proofs.Steps.{Comes}
 use Rattle.device.proofs.Loops.{filling_on}

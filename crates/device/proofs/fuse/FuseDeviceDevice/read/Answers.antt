@@ -1,4 +1,4 @@
-use Rattle.std.proofs.Common.{◌≡◌, length, refl, ap, ◌∙◌, arith}
+use Rattle.std.proofs.Common.{length, refl, ap, ◌∙◌, arith}
 use Rattle.device.specs.Answers.{sector_test}
 use Rattle.device.specs.Disk.{reads}
 use Rattle.std.proofs.lemmas.Bool.{not_from_true}

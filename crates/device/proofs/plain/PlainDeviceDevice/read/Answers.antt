@@ -1,4 +1,4 @@
-use Rattle.std.proofs.Common.{length, sym, refl, ap, ◌∙◌, arith}
+use Rattle.std.proofs.Common.{length, refl, ap, ◌∙◌, arith}
 use Rattle.device.specs.Answers.{sector_test}
 use Rattle.device.specs.Plain.{contents, nth_sector}
 use Rattle.device.specs.Ways.{as_called, tested, read_stopped, read_unpowered, on_by}
