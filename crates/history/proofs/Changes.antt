@@ -4,8 +4,7 @@ use Rattle.std.specs.List.{ContainsAt as Has}
 use Rattle.std.proofs.ByRecursion.{has_push, has_append_left, has_append_right}
 use Rattle.std.proofs.lemmas.Bool.{eq-eqb, ne_eqb, cond-true, cond-false, cases_eq, true≢false, and_from}
 use Rattle.device.specs.Disk.{Bytes, Cell, Disk, possibilities}
-use Rattle.device.specs.Plans.{origin, cow, Disks, with_side}
-use Rattle.layout.specs.Chunks.{sectors}
+use Rattle.device.specs.Plans.{origin, Disks, with_side}
 use Rattle.exceptions.specs.Table.{lookup}
 use Rattle.recovery.specs.Readings.{image, found}
 use Rattle.recovery.specs.Standing.{Within}

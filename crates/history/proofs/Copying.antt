@@ -4,7 +4,7 @@ use lib.Arith.{digits_div}
 use Rattle.std.specs.List.{ContainsAt as Has}
 use Rattle.std.proofs.lemmas.Bool.{cases_Bool, cases_eq, and_from, or_parts, cond-true, cond-false, true≢false}
 use Rattle.device.specs.Disk.{Bytes, Disk, possibilities}
-use Rattle.device.specs.Plans.{origin, cow, Disks, with_side}
+use Rattle.device.specs.Plans.{cow, Disks, with_side}
 use Rattle.device.proofs.Possible.{last_has}
 use Rattle.layout.specs.declared.chunk.ChunkSize.{ChunkSize}
 use Rattle.layout.specs.Chunks.{sectors, per_area, is_data, in_copy}

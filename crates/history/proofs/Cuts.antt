@@ -6,7 +6,6 @@ use Rattle.std.proofs.lemmas.Bool.{cases_Bool, and_from, cond-true, cond-false}
 use Rattle.device.specs.Disk.{Bytes, Disk, possibilities, Whole, Cut}
 use Rattle.device.specs.Plans.{Disks}
 use Rattle.device.proofs.Possible.{last_has}
-use Rattle.layout.specs.Chunks.{sectors}
 use Rattle.recovery.specs.Breaks.{Sure}
 use Rattle.recovery.specs.Readings.{image}
 use Rattle.history.specs.Steps.{plain}

@@ -6,7 +6,7 @@ use Rattle.std.proofs.ByRecursion.{has_push, has_append_left}
 use Rattle.std.proofs.lemmas.List.{drop_all, take_all, get_or-map, length-take-le}
 use Rattle.std.proofs.lemmas.Bool.{both_ways, cases_Bool, cases_lt, and_from}
 use Rattle.device.specs.Disk.{Bytes, Disk, possibilities, settled, flushes, Told, good, refused, Refusal, Cut}
-use Rattle.device.specs.Plans.{Plan, done, Runs, one, both, Side, origin, cow, Disks, pair, with_side, then, raised}
+use Rattle.device.specs.Plans.{Plan, done, Runs, one, both, Side, origin, Disks, pair, with_side, then, raised}
 use Rattle.device.proofs.Possible.{last_has}
 use Rattle.device.specs.Sectors.{only}
 use Rattle.device.proofs.Uses.{Went, went_on as passed, left_in, was_refused, went, over as run_over}

@@ -4,7 +4,7 @@ use Rattle.std.specs.List.{ContainsAt as Has}
 use Rattle.std.proofs.ByRecursion.{has_push, has_append_left}
 use Rattle.std.proofs.lemmas.Bool.{cases_Bool, or_from, or_left, or_right, cond-true, cond-false, true≢false}
 use Rattle.device.specs.Disk.{Bytes, good, refused}
-use Rattle.device.specs.Plans.{Runs, both, origin, cow, Disks}
+use Rattle.device.specs.Plans.{Runs, both, cow, Disks}
 use Rattle.layout.specs.declared.exception.Exception.{Exception}
 use Rattle.layout.specs.Chunks.{sectors}
 use Rattle.exceptions.specs.Table.{entries_at_most, lookup, room}

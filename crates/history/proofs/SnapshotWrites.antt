@@ -4,7 +4,7 @@ use Rattle.std.specs.List.{ContainsAt as Has}
 use Rattle.std.proofs.ByRecursion.{has_push}
 use Rattle.std.proofs.lemmas.Bool.{or_from, or_left, or_right, cond-true, cond-false}
 use Rattle.device.specs.Disk.{Bytes, writes, good, refused}
-use Rattle.device.specs.Plans.{Runs, both, origin, cow, Disks}
+use Rattle.device.specs.Plans.{Runs, both, Disks}
 use Rattle.device.proofs.Uses.{over as run_over}
 use Rattle.layout.specs.declared.exception.Exception.{Exception}
 use Rattle.layout.specs.Chunks.{sectors, in_copy}

@@ -1,14 +1,13 @@
 -- A scan of other readings finds the same list, where the entries up to its end are the same.
-use Rattle.std.proofs.Common.{◌≡◌, ℕ, zero, suc, ◌+◌, ◌*◌, ◌<◌, ◌≤◌, true, false, cond, eqb, leb, ◌⊎◌, List, [], ◌∷◌, ◌++◌, length, sym, refl, ap, ◌∙◌, subst, ap₂, inl, inr, ⊎_elim, arith}
-use Rattle.std.proofs.lemmas.Bool.{cases_Bool, cases_eq, cases_lt, eqb-true, eq-eqb, cond-true, cond-false}
-use Rattle.device.specs.Disk.{Bytes, Told, good, refused}
+use Rattle.std.proofs.Common.{◌≡◌, ℕ, zero, suc, ◌+◌, ◌<◌, ◌≤◌, cond, eqb, leb, List, [], ◌∷◌, ◌++◌, length, sym, refl, ap, ◌∙◌, ap₂, ⊎_elim, arith}
+use Rattle.std.proofs.lemmas.Bool.{cases_Bool, eqb-true, eq-eqb, cond-true, cond-false}
+use Rattle.device.specs.Disk.{Bytes, good}
 use Rattle.layout.specs.declared.exception.Exception.{Exception}
 use Rattle.layout.specs.Chunks.{per_area, area_start}
 use Rattle.layout.specs.Entries.{nth_entry}
 use Rattle.exceptions.specs.Table.{entries_at_most}
 use Rattle.store.specs.declared.shape.Shape.{Shape}
 use Rattle.store.specs.Judge.{width, damaged}
-use Rattle.store.specs.Refusals.{StoreRefusal}
 use Rattle.store.specs.Scanning.{Parsed, full, over, many, wrong, judged, parsed, Ending, ending, concluded}
 use Rattle.recovery.specs.Readings.{Image, gathered, area_bytes, scanned}
 

@@ -1,15 +1,14 @@
 -- What every write of a plan may leave, every run of it leaves: good, refused or broken off.
-use Rattle.std.proofs.Common.{◌≡◌, ℕ, zero, suc, ◌+◌, ◌<◌, ◌≤◌, Bool, true, false, cond, eqb, ◌⊎◌, List, [], ◌∷◌, ◌++◌, sym, refl, ap, ◌∙◌, subst, inl, inr, ⊎_elim, arith}
+use Rattle.std.proofs.Common.{◌≡◌, ℕ, Bool, cond, eqb, List, [], ◌∷◌, sym, subst, ⊎_elim}
 use Rattle.std.specs.List.{ContainsAt as Has}
 use Rattle.std.proofs.ByRecursion.{has_push_cases}
 use Rattle.std.proofs.lemmas.Bool.{eq-eqb, ne_eqb, cond-true, cond-false, cases_eq}
 use Rattle.device.specs.Disk.{Bytes, Cell, possibilities, kept, thin, torn, Disk, Fate, Op, reads, writes, flushes, Way, passes, leaves, refuses, way, Told, good, refused, Refusal, told_by, after_by, Cut}
-use Rattle.device.specs.Plans.{Plan, done, call, Ended, ended, run, Runs, one, Steps, bind, onward}
-use Rattle.device.specs.Rules.{Tears}
+use Rattle.device.specs.Plans.{Plan, done, call, ended, run, Runs, one, Steps, bind, onward}
 use Rattle.device.proofs.Possible.{kept_has, last_has}
 use Rattle.device.proofs.Ruled.{torn_tears}
 use Rattle.device.proofs.Steps.{never}
-use Rattle.recovery.specs.Readings.{Image, image}
+use Rattle.recovery.specs.Readings.{image}
 use Rattle.recovery.specs.Standing.{Within}
 
 module _ (A : ℕ → Bytes → Type 0) where

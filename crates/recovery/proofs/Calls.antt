@@ -1,5 +1,5 @@
 -- The calls of a store, good or broken off.
-use Rattle.std.proofs.Common.{◌≡◌, ℕ, zero, suc, ◌-◌, ◌/◌, ◌^◌, ◌<◌, ◌≤◌, Bool, true, false, cond, not, ◌||◌, ltb, ◌⊎◌, List, [], ◌∷◌, ◌++◌, length, take, Some, None, Option, sym, refl, ap, ◌∙◌, subst, inl, inr, ⊎_elim, arith}
+use Rattle.std.proofs.Common.{◌≡◌, ℕ, ◌-◌, ◌/◌, ◌<◌, ◌≤◌, Bool, false, not, ◌||◌, ltb, ◌⊎◌, List, [], ◌∷◌, length, take, Some, None, Option, sym, refl, ap, ◌∙◌, subst, inl, inr, ⊎_elim, arith}
 use Rattle.std.proofs.lemmas.Bool.{cases_Bool, or_parts, not-false, ltb-true, cond-true, cond-false}
 use Rattle.device.specs.Disk.{Disk, Told, good, refused, Refusal, Cut, put}
 use Rattle.device.specs.Plans.{Plan, done, Runs, one, onward, raised, lifted}
@@ -11,7 +11,7 @@ use Rattle.layout.specs.Headers.{header}
 use Rattle.exceptions.specs.Table.{entries_at_most, has_old, last_run, room, without_run}
 use Rattle.store.specs.Image.{Sizes}
 use Rattle.store.specs.Refusals.{StoreRefusal, because, up, doing}
-use Rattle.store.specs.Steps.{shape_of, making, spoiling, entering, dropping, enter, entered_at, drop_run}
+use Rattle.store.specs.Steps.{shape_of, making, spoiling, entering, dropping, enter, entered_at}
 use Rattle.recovery.specs.Readings.{image, found}
 use Rattle.recovery.specs.Standing.{Standing, Listed, Stands}
 use Rattle.recovery.specs.Breaks.{more}

@@ -1,23 +1,23 @@
 -- The store's calls and its data sectors.
-use Rattle.std.proofs.Common.{◌≡◌, ℕ, ◌/◌, ◌<◌, Bool, true, false, cond, eqb, ltb, List, [], ◌∷◌, length, sym, refl, ap, ◌∙◌, subst, ⊎_elim, arith}
+use Rattle.std.proofs.Common.{◌≡◌, ℕ, ◌/◌, ◌<◌, true, eqb, List, [], ◌∷◌, length, sym, refl, ap, ◌∙◌, subst, ⊎_elim}
 use Rattle.std.specs.List.{ContainsAt as Has}
 use Rattle.std.proofs.lemmas.Bool.{cases_Bool, and_parts, cond-true, cond-false}
-use Rattle.device.specs.Disk.{Bytes, Disk, possibilities, reads, writes, flushes, Told, good, refused, Refusal}
-use Rattle.device.specs.Plans.{Plan, done, call, Runs, one, onward, raised, lifted}
+use Rattle.device.specs.Disk.{Bytes, Disk, possibilities, reads, writes, Told, good, refused, Refusal}
+use Rattle.device.specs.Plans.{Plan, done, Runs, one, onward, raised}
 use Rattle.device.proofs.Possible.{last_has}
 use Rattle.device.proofs.Uses.{over as run_over}
 use Rattle.layout.specs.declared.chunk.ChunkSize.{ChunkSize}
 use Rattle.layout.specs.declared.exception.Exception.{Exception}
-use Rattle.layout.specs.Chunks.{sectors, per_area, area_start, is_data}
+use Rattle.layout.specs.Chunks.{sectors, per_area, is_data}
 use Rattle.exceptions.specs.Table.{without_run}
 use Rattle.store.specs.declared.shape.Shape.{Shape}
 use Rattle.store.specs.Image.{Sizes}
 use Rattle.store.specs.Judge.{width, on_data}
 use Rattle.store.specs.Refusals.{StoreRefusal, because, up, asking}
 use Rattle.store.specs.Scanning.{Ending, most_areas}
-use Rattle.store.specs.Steps.{Contents, shape_of, finished, flushing, making, spoiling, dropping, cleaning, opening, enter, drop_run, data_test, data_read, data_write}
+use Rattle.store.specs.Steps.{Contents, shape_of, finished, flushing, making, spoiling, dropping, drop_run, data_test, data_read, data_write}
 use Rattle.recovery.specs.Readings.{image}
-use Rattle.recovery.specs.Standing.{Within, Standing, Stands, Finds}
+use Rattle.recovery.specs.Standing.{Within, Standing, Stands}
 use Rattle.recovery.specs.Data.{IsData, DataKept, CallsKeepData, DataCallsKeepList}
 use Rattle.recovery.proofs.Again.{end_of}
 use Rattle.recovery.proofs.Allowed.{Writes, on_good, run_within}

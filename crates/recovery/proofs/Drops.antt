@@ -1,11 +1,11 @@
 -- Dropping the end of a list, wherever it breaks off.
-use Rattle.std.proofs.Common.{◌≡◌, ℕ, zero, suc, ◌+◌, ◌-◌, ◌*◌, ◌/◌, ◌%◌, ◌<◌, ◌≤◌, max, true, ◌⊎◌, List, [], length, get_or, take, drop, sym, refl, ap, ◌∙◌, subst, inl, inr, ⊎_elim, le_refl, mod-lt, mul_assoc, arith, length-drop, length-take}
+use Rattle.std.proofs.Common.{◌≡◌, ℕ, zero, suc, ◌+◌, ◌-◌, ◌*◌, ◌/◌, ◌%◌, ◌<◌, ◌≤◌, max, ◌⊎◌, List, length, get_or, take, drop, sym, refl, ap, ◌∙◌, subst, inl, inr, ⊎_elim, le_refl, mod-lt, mul_assoc, arith, length-drop, length-take}
 use Rattle.std.specs.List.{AllByRecursion}
 use Rattle.std.proofs.ByRecursion.{All-take}
 use Rattle.std.proofs.lemmas.List.{take_all}
-use Rattle.std.proofs.lemmas.Bool.{cases_eq, cases_lt}
-use Rattle.device.specs.Disk.{Bytes, Disk, put, settled, Told, good, refused, Refusal, Cut}
-use Rattle.device.specs.Plans.{Plan, Runs, one, onward}
+use Rattle.std.proofs.lemmas.Bool.{cases_lt}
+use Rattle.device.specs.Disk.{Bytes, Disk, put, settled, Told, good, refused, Refusal}
+use Rattle.device.specs.Plans.{Runs, one, onward}
 use Rattle.device.proofs.Possible.{last_has}
 use Rattle.device.proofs.Uses.{over as run_over}
 use Rattle.layout.specs.declared.chunk.ChunkSize.{ChunkSize}
@@ -17,7 +17,7 @@ use Rattle.store.specs.Image.{Sizes}
 use Rattle.store.specs.Steps.{shape_of, finished, flushing, unwinding, dropping}
 use Rattle.recovery.specs.Readings.{Image, image, area_bytes}
 use Rattle.recovery.specs.Holding.{Holds}
-use Rattle.recovery.specs.Standing.{Within, ValidHeader, Standing, Listed, Stands}
+use Rattle.recovery.specs.Standing.{Within, ValidHeader, Standing, Listed}
 use Rattle.recovery.specs.Breaks.{DroppingStands}
 use Rattle.recovery.specs.Lying.{Legible, Lies, DroppingLies}
 use Rattle.recovery.proofs.Allowed.{Writes, on_good, run_within, then_writes, cut_within}

@@ -1,7 +1,7 @@
 -- Entering an exception, wherever it breaks off.
-use Rattle.std.proofs.Common.{◌≡◌, ℕ, zero, suc, ◌+◌, ◌-◌, ◌*◌, ◌/◌, ◌%◌, ◌<◌, ◌≤◌, Bool, true, false, ◌⊎◌, List, [], ◌∷◌, ◌++◌, length, replicate, sym, refl, ap, ◌∙◌, subst, inl, inr, ⊎_elim, le_refl, mod-lt, mul_assoc, arith}
+use Rattle.std.proofs.Common.{◌≡◌, ℕ, zero, suc, ◌+◌, ◌*◌, ◌/◌, ◌%◌, ◌<◌, ◌≤◌, Bool, true, false, ◌⊎◌, List, length, replicate, sym, refl, ap, ◌∙◌, subst, inl, inr, ⊎_elim, le_refl, mod-lt, mul_assoc, arith}
 use Rattle.std.proofs.lemmas.Bool.{eq-eqb, cases_eq, cases_lt}
-use Rattle.device.specs.Disk.{Bytes, Disk, writes, flushes, leaves, put, settled, Told, good, refused, Refusal, Cut}
+use Rattle.device.specs.Disk.{Bytes, Disk, flushes, leaves, put, settled, Told, good, refused, Refusal}
 use Rattle.device.specs.Plans.{Plan, Runs, one, onward, zeroing}
 use Rattle.device.proofs.Uses.{Went, went_on, left_in, was_refused, went, over as run_over, halves}
 use Rattle.device.proofs.Possible.{last_has}
@@ -12,9 +12,9 @@ use Rattle.layout.specs.Chunks.{sectors, per_area, area_start, area_place}
 use Rattle.layout.specs.Entries.{pic}
 use Rattle.exceptions.specs.Table.{fills_area}
 use Rattle.store.specs.Image.{Sizes}
-use Rattle.store.specs.Steps.{shape_of, finished, flushing, storing, preparing, entering}
+use Rattle.store.specs.Steps.{shape_of, finished, flushing, storing, preparing}
 use Rattle.recovery.specs.Readings.{Image, image}
-use Rattle.recovery.specs.Standing.{Within, ValidHeader, Standing, Listed, Stands}
+use Rattle.recovery.specs.Standing.{Within, ValidHeader, Standing, Listed}
 use Rattle.recovery.specs.Breaks.{more, EnteringStands}
 use Rattle.recovery.specs.Lying.{Lies, EnteringLies}
 use Rattle.recovery.proofs.Allowed.{Writes, on_good, run_within, by_way, cut_within}

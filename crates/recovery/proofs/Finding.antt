@@ -1,10 +1,7 @@
 -- The list is found, with nothing said of the bytes that its sectors hold.
 use Rattle.std.proofs.Common.{◌≡◌, ◌⊎◌, sym, ◌∙◌, inl, inr, ⊎_elim}
-use Rattle.device.specs.Disk.{Disk, Told, Refusal, refused}
-use Rattle.device.specs.Plans.{Runs, one}
-use Rattle.store.specs.Image.{Sizes}
-use Rattle.store.specs.Refusals.{StoreRefusal, up}
-use Rattle.store.specs.Steps.{Contents, opening}
+use Rattle.device.specs.Disk.{Refusal, refused}
+use Rattle.store.specs.Refusals.{up}
 use Rattle.recovery.specs.Readings.{image, found, OpeningFinds}
 use Rattle.recovery.specs.Standing.{StandingOpens}
 use Rattle.recovery.specs.Breaks.{EnteringBreaks, MakingBreaks, SpoilingBreaks, DroppingBreaks, OpeningStands}

@@ -1,5 +1,5 @@
 -- What the sectors hold is found.
-use Rattle.std.proofs.Common.{◌≡◌, ℕ, zero, suc, ◌+◌, ◌-◌, ◌*◌, ◌<◌, ◌≤◌, true, false, cond, eqb, leb, List, [], ◌∷◌, ◌++◌, length, get_or, take, sym, refl, ap, ◌∙◌, subst, ⊎_elim, mul-le-mul, mul-add, arith}
+use Rattle.std.proofs.Common.{◌≡◌, ℕ, zero, suc, ◌+◌, ◌-◌, ◌*◌, ◌<◌, ◌≤◌, eqb, leb, List, [], ◌∷◌, ◌++◌, length, take, sym, refl, ap, ◌∙◌, ⊎_elim, mul-le-mul, mul-add, arith}
 use Rattle.std.proofs.lemmas.List.{take_more, take_all, length-take-le}
 use Rattle.std.proofs.lemmas.Bool.{eq-eqb, ne_eqb, lt-leb, cond-true, cond-false, cases_lt}
 use Rattle.device.specs.Disk.{good}
@@ -10,9 +10,9 @@ use Rattle.layout.specs.Chunks.{sectors, per_area}
 use Rattle.layout.specs.Entries.{nothing, nth_entry}
 use Rattle.store.specs.declared.shape.Shape.{Shape}
 use Rattle.store.specs.Judge.{width, damaged}
-use Rattle.store.specs.Scanning.{Parsed, full, over, parsed, concluded, ending}
+use Rattle.store.specs.Scanning.{full, over, parsed, concluded, ending}
 use Rattle.recovery.specs.Readings.{Image, area_bytes, scanned}
-use Rattle.recovery.specs.Holding.{Holds, Sound, FoundAgain, FindsWhatItHolds}
+use Rattle.recovery.specs.Holding.{Holds, Sound, FindsWhatItHolds}
 
 -- a chunk has from 1 to 16 sectors
 pub sectors_within : (size : ChunkSize) → (1 ≤ sectors size) × (sectors size ≤ 16)

@@ -1,14 +1,13 @@
 -- Calls that write only the header and areas keep the data sectors.
-use Rattle.std.proofs.Common.{◌≡◌, ℕ, zero, suc, ◌+◌, ◌-◌, ◌*◌, ◌/◌, ◌%◌, ◌<◌, ◌≤◌, Bool, true, false, cond, not, ◌&&◌, eqb, List, [], ◌∷◌, ◌++◌, length, take, drop, sym, refl, ap, ◌∙◌, subst, ⊎_elim, mod-lt, mul_comm, arith}
+use Rattle.std.proofs.Common.{◌≡◌, ℕ, zero, suc, ◌+◌, ◌-◌, ◌*◌, ◌/◌, ◌%◌, ◌<◌, ◌≤◌, Bool, true, false, not, List, [], ◌∷◌, drop, sym, refl, ap, ◌∙◌, subst, ⊎_elim, mod-lt, mul_comm, arith}
 use lib.Arith.{digits_div, digits_mod}
 use Rattle.std.specs.List.{ContainsAt as Has}
-use Rattle.std.proofs.lemmas.Bool.{cases_Bool, and_parts, true≢false, eq-eqb, ne_eqb, cond-true, cond-false, not_from_true}
+use Rattle.std.proofs.lemmas.Bool.{cases_Bool, and_parts, true≢false, eq-eqb, cond-true, cond-false, not_from_true}
 use Rattle.device.specs.Disk.{Bytes, Disk, Fate, possibilities, Op, reads, writes, flushes, Way, passes, leaves, refuses, way, told_by, after_by, Told, good, refused, Refusal}
 use Rattle.device.specs.Plans.{Plan, done, call, run, ended, Runs, one, Steps, onward, then, spreading, zeroing}
 use Rattle.device.proofs.Steps.{never}
-use Rattle.layout.specs.declared.chunk.ChunkSize.{ChunkSize}
 use Rattle.layout.specs.declared.exception.Exception.{Exception}
-use Rattle.layout.specs.Chunks.{sectors, per_area, area_chunk, area_start, area_place, is_area, is_data}
+use Rattle.layout.specs.Chunks.{per_area, area_chunk, area_start, area_place, is_area, is_data}
 use Rattle.layout.specs.Entries.{pic}
 use Rattle.layout.specs.Headers.{header}
 use Rattle.exceptions.specs.Table.{fills_area}

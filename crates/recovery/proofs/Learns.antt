@@ -1,5 +1,5 @@
 -- What a scan finds is sound, and the sectors hold it.
-use Rattle.std.proofs.Common.{◌≡◌, ℕ, zero, suc, ◌+◌, ◌-◌, ◌*◌, ◌/◌, ◌%◌, ◌<◌, ◌≤◌, true, false, cond, not, ◌&&◌, eqb, leb, List, [], ◌∷◌, ◌++◌, length, get_or, take, sym, refl, ap, ◌∙◌, subst, ap₂, ⊎_elim, mul-le-mul_right, mul_comm, mul-one, mul-add, arith}
+use Rattle.std.proofs.Common.{◌≡◌, ℕ, zero, suc, ◌+◌, ◌-◌, ◌*◌, ◌/◌, ◌%◌, ◌<◌, ◌≤◌, true, false, not, ◌&&◌, eqb, leb, List, [], length, get_or, take, sym, refl, ap, ◌∙◌, subst, ap₂, ⊎_elim, mul-le-mul_right, mul_comm, mul-one, mul-add, arith}
 use native.Mathlib.Nat.{div-add-mod}
 use lib.Arith.{digits_div, digits_mod}
 use Rattle.std.proofs.lemmas.List.{get_or_append_left, get_or_push, take_at, take-append-le}

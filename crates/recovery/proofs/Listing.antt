@@ -1,23 +1,20 @@
 -- What entering adds to a list, an opening takes.
-use Rattle.std.proofs.Common.{◌≡◌, ℕ, zero, suc, ◌+◌, ◌-◌, ◌*◌, ◌/◌, ◌%◌, ◌^◌, ◌<◌, ◌≤◌, max, Bool, true, false, cond, not, ◌&&◌, ◌||◌, eqb, ltb, leb, ◌⊎◌, List, [], ◌∷◌, ◌++◌, length, get_or, take, is_some, Some, None, Option, sym, refl, ap, ◌∙◌, subst, ap₂, inl, inr, ⊎_elim, mod-lt, mod-eq_of_lt, mul_comm, div-le_self, arith, ltb-false, ltb-true, lt-ltb, eq-eqb, ne_eqb, eqb-true, le-leb, leb-true}
+use Rattle.std.proofs.Common.{◌≡◌, ℕ, ◌+◌, ◌*◌, ◌/◌, ◌%◌, ◌^◌, ◌<◌, ◌≤◌, Bool, true, false, cond, not, ◌&&◌, eqb, ltb, leb, List, [], ◌∷◌, length, get_or, take, is_some, Some, None, sym, refl, ap, ◌∙◌, subst, ap₂, ⊎_elim, mod-eq_of_lt, mul_comm, div-le_self, arith, ltb-true, lt-ltb, eq-eqb, ne_eqb, eqb-true, le-leb, leb-true}
 use native.Mathlib.Nat.{div-add-mod}
 use lib.Arith.{digits_div, digits_mod}
 use borrow.Author.Tests.{eqb-false, lt-leb, not-true, not-false}
-use Rattle.std.proofs.lemmas.Bool.{and_parts, and_from, and_left, and_right, or_parts, or_from, not_from_true, not_from_false, cond-true, cond-false, cases_eq, cases_lt}
+use Rattle.std.proofs.lemmas.Bool.{and_parts, and_from, and_left, and_right, or_parts, or_from, not_from_true, not_from_false, cond-false, cases_eq, cases_lt}
 use Rattle.std.proofs.ByRecursion.{All-push}
 use Rattle.std.proofs.lemmas.List.{get_or_append_left, get_or_push, take_at, take-append-le}
-use Rattle.layout.specs.declared.chunk.ChunkSize.{ChunkSize}
 use Rattle.layout.specs.declared.exception.Exception.{Exception}
 use Rattle.layout.specs.Chunks.{sectors, per_area, area_chunk, is_area, is_data}
 use Rattle.layout.specs.Entries.{nothing, Fits}
 use Rattle.exceptions.specs.Search.{first_from}
-use Rattle.exceptions.specs.Table.{entries_at_most, olds, news, has_old, has_new, largest, past_area, next_place, fills_area, has_room, room}
+use Rattle.exceptions.specs.Table.{entries_at_most, news, has_old, has_new, largest, next_place, fills_area, has_room, room}
 use Rattle.store.specs.declared.shape.Shape.{Shape}
-use Rattle.store.specs.Image.{Sizes}
 use Rattle.store.specs.Judge.{width, on_data, stranded, damaged}
 use Rattle.store.specs.Steps.{shape_of}
 use Rattle.recovery.specs.Holding.{Sound}
-use Rattle.recovery.specs.Standing.{Listed}
 use Rattle.recovery.specs.Breaks.{more, EnteringListed}
 use Rattle.recovery.proofs.Finds.{sectors_within}
 use Rattle.recovery.proofs.Pictures.{length_more}

@@ -1,5 +1,5 @@
 -- Making a store.
-use Rattle.std.proofs.Common.{◌≡◌, ℕ, ◌+◌, ◌*◌, ◌<◌, ◌≤◌, true, ◌⊎◌, List, [], length, replicate, sym, refl, ap, ◌∙◌, subst, inl, inr, ⊎_elim, mul-le-mul_right, arith}
+use Rattle.std.proofs.Common.{◌≡◌, ℕ, ◌+◌, ◌*◌, ◌<◌, ◌≤◌, true, ◌⊎◌, [], replicate, sym, refl, ap, ◌∙◌, subst, inl, inr, ⊎_elim, mul-le-mul_right, arith}
 use Rattle.std.specs.List.{ContainsAt as Has}
 use Rattle.std.proofs.lemmas.Bool.{cases_eq}
 use Rattle.device.specs.Disk.{Bytes, Disk, Fate, possibilities, writes, flushes, passes, leaves, put, settled, Told, good, refused, Refusal, Cut}
@@ -9,15 +9,13 @@ use Rattle.device.specs.Sectors.{only}
 use Rattle.device.proofs.Uses.{Went, went_on, left_in, was_refused, went, over as run_over, halves}
 use Rattle.layout.specs.declared.chunk.ChunkSize.{ChunkSize}
 use Rattle.layout.specs.Chunks.{sectors, per_area, area_start}
-use Rattle.layout.specs.Entries.{pic}
 use Rattle.layout.specs.Headers.{header, header_read}
 use Rattle.layout.proofs.Back.{header_back}
 use Rattle.store.specs.Image.{Sizes, well_shaped, header_found}
-use Rattle.store.specs.Refusals.{because}
 use Rattle.store.specs.Scanning.{most_areas}
 use Rattle.store.specs.Steps.{shape_of, writing, flushing, storing, making}
-use Rattle.recovery.specs.Readings.{image, scanned, next, found}
-use Rattle.recovery.specs.Standing.{Within, Standing, Listed, Stands}
+use Rattle.recovery.specs.Readings.{image, scanned, next}
+use Rattle.recovery.specs.Standing.{Within, Standing, Listed}
 use Rattle.recovery.specs.Breaks.{MakingStands}
 use Rattle.recovery.specs.Lying.{LyingByMaking, MakingLies}
 use Rattle.recovery.proofs.Allowed.{Writes, run_within, by_way, cut_within}

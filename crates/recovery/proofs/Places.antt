@@ -1,5 +1,5 @@
 -- Where the sectors of areas stand: no two in one place, and none at the header.
-use Rattle.std.proofs.Common.{◌≡◌, ℕ, zero, ◌+◌, ◌-◌, ◌*◌, ◌/◌, ◌%◌, ◌<◌, ◌≤◌, sym, refl, ap, ◌∙◌, ap₂, ⊎_elim, mul-le-mul_right, mod-lt, mul_comm, mul-le-mul_left, mul-zero, mul-one, mul-add, arith}
+use Rattle.std.proofs.Common.{◌≡◌, ℕ, ◌+◌, ◌-◌, ◌*◌, ◌/◌, ◌%◌, ◌<◌, ◌≤◌, sym, ap, ◌∙◌, ap₂, ⊎_elim, mul-le-mul_right, mod-lt, mul_comm, mul-le-mul_left, mul-zero, mul-one, mul-add, arith}
 use native.Mathlib.Nat.{eq_of_mul-eq-mul_left, div-add-mod, mul-sub}
 use Rattle.std.proofs.lemmas.Bool.{cases_lt}
 use lib.Arith.{digits_div, digits_mod}

@@ -1,14 +1,12 @@
 -- The sectors of a list that an opening found, once cleaned, are its pictures.
-use Rattle.std.proofs.Common.{◌≡◌, ℕ, zero, suc, ◌+◌, ◌-◌, ◌*◌, ◌/◌, ◌%◌, ◌<◌, ◌≤◌, List, [], ◌∷◌, ◌++◌, length, get_or, take, drop, replicate, sym, refl, ap, ◌∙◌, subst, ap₂, ⊎_elim, append-nil, mul_assoc, arith, length-drop, length-take, take_all, take-take}
-use lib.ListN.{length-replicate}
+use Rattle.std.proofs.Common.{◌≡◌, ℕ, ◌+◌, ◌-◌, ◌*◌, ◌/◌, ◌%◌, ◌<◌, ◌≤◌, List, [], ◌++◌, length, get_or, take, drop, replicate, sym, ap, ◌∙◌, ap₂, ⊎_elim, append-nil, mul_assoc, arith, length-drop, length-take, take_all, take-take}
 use lib.Seq.{take-append-add, drop-append-le, drop-append-add}
-use Rattle.std.specs.List.{AllByRecursion}
 use Rattle.std.proofs.lemmas.List.{length-take-le, drop-take, take-replicate, drop-replicate}
 use Rattle.std.proofs.lemmas.Bool.{cases_lt}
 use Rattle.device.specs.Disk.{Bytes}
 use Rattle.layout.specs.declared.exception.Exception.{Exception}
 use Rattle.layout.specs.Chunks.{per_area, area_start}
-use Rattle.layout.specs.Entries.{nothing, entry_from, nth_entry, pic}
+use Rattle.layout.specs.Entries.{nothing, entry_from, pic}
 use Rattle.store.specs.declared.shape.Shape.{Shape}
 use Rattle.store.specs.Image.{cleaned}
 use Rattle.store.specs.Judge.{width}

@@ -1,20 +1,19 @@
 -- Sectors that are written as pictures hold the exceptions.
-use Rattle.std.proofs.Common.{◌≡◌, ℕ, zero, suc, ◌+◌, ◌-◌, ◌*◌, ◌/◌, ◌%◌, ◌<◌, ◌≤◌, leb, List, [], ◌∷◌, ◌++◌, length, get_or, take, drop, sym, refl, ap, ◌∙◌, subst, ap₂, append_assoc, append-nil, mul_assoc, arith, length-append, length-drop, length-take, take_all}
+use Rattle.std.proofs.Common.{◌≡◌, ℕ, zero, suc, ◌+◌, ◌-◌, ◌*◌, ◌/◌, ◌%◌, ◌<◌, ◌≤◌, leb, List, [], ◌++◌, length, get_or, take, drop, sym, refl, ap, ◌∙◌, ap₂, append_assoc, append-nil, mul_assoc, arith, length-append, length-drop, length-take, take_all}
 use lib.ListN.{length-replicate}
 use lib.Seq.{drop-append-add, drop-append-le, take-append-le}
-use Rattle.std.specs.List.{between, flat_map, AllByRecursion}
+use Rattle.std.specs.List.{between, flat_map}
 use Rattle.std.proofs.lemmas.Bool.{cond-true, le-leb}
-use Rattle.device.specs.Disk.{Bytes}
 use Rattle.layout.specs.declared.exception.Exception.{Exception}
 use Rattle.layout.specs.Chunks.{per_area, area_start}
-use Rattle.layout.specs.Entries.{nothing, entry, entry_from, nth_entry, pic, Fits}
+use Rattle.layout.specs.Entries.{nothing, entry, entry_from, nth_entry, pic}
 use Rattle.layout.specs.Numbers.{value}
 use Rattle.layout.proofs.Made.{length_entries}
 use Rattle.layout.proofs.Back.{read_back}
 use Rattle.store.specs.declared.shape.Shape.{Shape}
 use Rattle.store.specs.Judge.{width}
 use Rattle.recovery.specs.Readings.{Image, gathered, area_bytes}
-use Rattle.recovery.specs.Holding.{Holds, Pictured, PicturesHold}
+use Rattle.recovery.specs.Holding.{PicturesHold}
 
 -- the sectors one after the other
 abbrev sheets : Image → ℕ → ℕ → List ℕ

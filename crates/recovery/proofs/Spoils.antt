@@ -1,5 +1,5 @@
 -- Spoiling a store, wherever it breaks off.
-use Rattle.std.proofs.Common.{◌≡◌, ℕ, ◌+◌, ◌*◌, ◌<◌, ◌≤◌, true, false, cond, ◌⊎◌, List, [], length, sym, refl, ap, ◌∙◌, subst, inl, inr, ⊎_elim}
+use Rattle.std.proofs.Common.{◌≡◌, ℕ, ◌+◌, ◌*◌, ◌<◌, ◌≤◌, true, false, ◌⊎◌, List, [], length, sym, refl, ap, ◌∙◌, subst, inl, inr, ⊎_elim}
 use Rattle.std.proofs.lemmas.Bool.{cond-true}
 use Rattle.device.specs.Disk.{Bytes, good, refused}
 use Rattle.layout.specs.declared.chunk.ChunkSize.{ChunkSize}
@@ -13,7 +13,7 @@ use Rattle.store.specs.Refusals.{because}
 use Rattle.store.specs.Scanning.{most_areas}
 use Rattle.store.specs.Steps.{shape_of}
 use Rattle.recovery.specs.Readings.{Image, image, scanned, next, found}
-use Rattle.recovery.specs.Standing.{Within, ValidHeader, Standing, Stands}
+use Rattle.recovery.specs.Standing.{Within, ValidHeader}
 use Rattle.recovery.specs.Lying.{SpoilingLies}
 use Rattle.recovery.proofs.Allowed.{run_within, cut_within}
 use Rattle.recovery.proofs.Enters.{storing_writes}

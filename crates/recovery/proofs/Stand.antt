@@ -1,17 +1,16 @@
 -- What stands is found.
-use Rattle.std.proofs.Common.{◌≡◌, ℕ, ◌+◌, ◌*◌, true, cond, List, [], sym, refl, ap, ◌∙◌, subst}
+use Rattle.std.proofs.Common.{◌≡◌, ◌+◌, ◌*◌, true, List, [], sym, refl, ap, ◌∙◌, subst}
 use Rattle.std.proofs.lemmas.Bool.{cond-true}
-use Rattle.device.specs.Disk.{Told, good}
+use Rattle.device.specs.Disk.{good}
 use Rattle.layout.specs.declared.chunk.ChunkSize.{ChunkSize}
 use Rattle.layout.specs.declared.exception.Exception.{Exception}
 use Rattle.layout.specs.Chunks.{sectors}
 use Rattle.store.specs.Image.{Sizes, well_shaped, header_judged, header_found}
-use Rattle.store.specs.Refusals.{StoreRefusal}
-use Rattle.store.specs.Scanning.{Ending, most_areas}
+use Rattle.store.specs.Scanning.{most_areas}
 use Rattle.store.specs.Steps.{shape_of}
-use Rattle.recovery.specs.Readings.{Image, area_bytes, scanned, next, found}
+use Rattle.recovery.specs.Readings.{Image, scanned, next}
 use Rattle.recovery.specs.Holding.{FoundAgain, Pictured}
-use Rattle.recovery.specs.Standing.{ValidHeader, Standing, Listed, Finds}
+use Rattle.recovery.specs.Standing.{ValidHeader, Finds}
 use Rattle.recovery.specs.Lying.{StandingLies}
 use Rattle.recovery.proofs.Finds.{finds_what_it_holds}
 use Rattle.recovery.proofs.Legible.{pic_small}

@@ -1,11 +1,11 @@
 -- After a good opening the list stands.
-use Rattle.std.proofs.Common.{◌≡◌, ℕ, zero, suc, ◌+◌, ◌-◌, ◌*◌, ◌/◌, ◌%◌, ◌^◌, ◌<◌, ◌≤◌, Bool, true, false, cond, not, ltb, leb, List, [], ◌∷◌, ◌++◌, length, get_or, take, drop, replicate, sym, refl, ap, ◌∙◌, subst, ap₂, ⊎_elim, mul-le-mul_right, mod-lt, mul_assoc, mul_comm, mul-le-mul_left, mul-one, mul-add, div-le_self, arith, length-drop, take-append-drop, take_all, drop-drop}
+use Rattle.std.proofs.Common.{◌≡◌, ℕ, zero, suc, ◌+◌, ◌-◌, ◌*◌, ◌/◌, ◌%◌, ◌^◌, ◌<◌, ◌≤◌, true, false, not, leb, List, [], ◌∷◌, ◌++◌, length, get_or, take, drop, replicate, sym, ap, ◌∙◌, subst, ⊎_elim, mul-le-mul_right, mod-lt, mul_comm, mul-le-mul_left, mul-one, mul-add, div-le_self, arith, length-drop, take-append-drop, take_all, drop-drop}
 use native.Mathlib.Nat.{div-add-mod}
 use Rattle.std.specs.List.{ContainsAt as Has, AllByRecursion}
 use Rattle.std.proofs.ByRecursion.{All-more}
 use Rattle.std.proofs.lemmas.Bool.{cases_Bool, cases_lt, or_parts, and_parts, not-false, leb-false, ltb-true, cond-true, cond-false}
-use Rattle.device.specs.Disk.{Bytes, Disk, Fate, possibilities, writes, settled, good}
-use Rattle.device.specs.Plans.{Runs, one, then, spreading}
+use Rattle.device.specs.Disk.{Bytes, Disk, possibilities, writes, settled, good}
+use Rattle.device.specs.Plans.{Runs, one, spreading}
 use Rattle.device.specs.Sectors.{only}
 use Rattle.device.proofs.Uses.{Went, went_on, left_in, was_refused, went as went_one, over as run_over, not_good}
 use Rattle.layout.specs.declared.chunk.ChunkSize.{ChunkSize}
@@ -15,12 +15,11 @@ use Rattle.layout.specs.Entries.{nothing, pic, Fits}
 use Rattle.store.specs.declared.shape.Shape.{Shape}
 use Rattle.store.specs.Image.{Sizes, all_zero, cleaned}
 use Rattle.store.specs.Judge.{width, on_data, damaged}
-use Rattle.store.specs.Refusals.{up}
-use Rattle.store.specs.Scanning.{Ending, most_areas}
+use Rattle.store.specs.Scanning.{Ending}
 use Rattle.store.specs.Steps.{Contents, shape_of, finished, flushing, cleaning}
 use Rattle.recovery.specs.Readings.{Image, image, area_bytes}
 use Rattle.recovery.specs.Holding.{Sound}
-use Rattle.recovery.specs.Standing.{ValidHeader, Standing, Listed, Stands}
+use Rattle.recovery.specs.Standing.{ValidHeader, Standing, Stands}
 use Rattle.recovery.specs.Breaks.{Sure}
 use Rattle.recovery.specs.Lying.{LegibleStands}
 use Rattle.recovery.proofs.Again.{End}
@@ -32,7 +31,7 @@ use Rattle.recovery.proofs.Opens.{good_finds}
 use Rattle.recovery.proofs.Places.{not_header}
 use Rattle.recovery.proofs.Sectors.{Small, zeros_are}
 use Rattle.recovery.proofs.Settles.{before_end, from_end}
-use Rattle.recovery.proofs.Sheets.{length_area, sector_of_area}
+use Rattle.recovery.proofs.Sheets.{sector_of_area}
 use Rattle.recovery.proofs.Zeros.{put_here, put_elsewhere, settled_single, flushed_good, then_good}
 
 -- bytes over a range: below it nothing changes, and in it they are read

@@ -1,5 +1,5 @@
 -- What cleaning writes keeps the entries up to the end entry.
-use Rattle.std.proofs.Common.{◌≡◌, ℕ, zero, suc, ◌+◌, ◌-◌, ◌*◌, ◌/◌, ◌%◌, ◌<◌, ◌≤◌, Bool, true, false, cond, ◌⊎◌, List, [], ◌∷◌, ◌++◌, length, take, drop, replicate, sym, refl, ap, ◌∙◌, subst, ap₂, inl, inr, ⊎_elim, arith, length-append, length-drop, length-take, take-take, drop-drop}
+use Rattle.std.proofs.Common.{◌≡◌, ℕ, zero, suc, ◌+◌, ◌-◌, ◌*◌, ◌/◌, ◌%◌, ◌<◌, ◌≤◌, ◌++◌, length, take, drop, replicate, sym, refl, ap, ◌∙◌, subst, ap₂, ⊎_elim, arith, length-append, length-drop, take-take, drop-drop}
 use lib.ListN.{length-replicate}
 use lib.Seq.{take-append-le}
 use Rattle.std.specs.List.{between}
@@ -7,9 +7,9 @@ use Rattle.std.proofs.lemmas.List.{length-take-le}
 use Rattle.std.proofs.lemmas.Slice.{between_is}
 use Rattle.std.proofs.lemmas.Bool.{cases_Bool, cond-true, cond-false}
 use Rattle.device.specs.Disk.{Bytes, Told, good, refused, Refusal}
-use Rattle.device.specs.Plans.{onward, then, spreading}
-use Rattle.layout.specs.Chunks.{per_area, area_start}
-use Rattle.layout.specs.Entries.{entry_from, nth_entry}
+use Rattle.device.specs.Plans.{onward, spreading}
+use Rattle.layout.specs.Chunks.{area_start}
+use Rattle.layout.specs.Entries.{entry_from}
 use Rattle.layout.specs.Numbers.{value}
 use Rattle.layout.proofs.Back.{entry_past}
 use Rattle.store.specs.declared.shape.Shape.{Shape}
@@ -17,7 +17,7 @@ use Rattle.store.specs.Image.{all_zero, cleaned}
 use Rattle.store.specs.Judge.{width}
 use Rattle.store.specs.Scanning.{Ending}
 use Rattle.store.specs.Steps.{finished, flushing, cleaning}
-use Rattle.recovery.specs.Readings.{Image, area_bytes}
+use Rattle.recovery.specs.Readings.{Image}
 use Rattle.recovery.proofs.Allowed.{Writes, on_good, then_writes}
 use Rattle.recovery.proofs.Again.{Keeps, End}
 use Rattle.recovery.proofs.Places.{same_sector, same_area, not_header}

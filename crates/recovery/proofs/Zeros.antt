@@ -1,8 +1,8 @@
 -- What good writes and flushes leave as the readings.
-use Rattle.std.proofs.Common.{◌≡◌, ℕ, zero, suc, ◌+◌, ◌<◌, ◌≤◌, cond, eqb, List, [], ◌∷◌, replicate, sym, refl, ap, ◌∙◌, subst, arith}
+use Rattle.std.proofs.Common.{◌≡◌, ℕ, zero, suc, ◌+◌, ◌<◌, eqb, replicate, refl, ap, ◌∙◌, subst, arith}
 use Rattle.std.specs.List.{ContainsAt as Has}
 use Rattle.std.proofs.lemmas.Bool.{eq-eqb, ne_eqb, cond-true, cond-false}
-use Rattle.device.specs.Disk.{Bytes, Disk, Fate, writes, flushes, settled, possibilities, Told, good, refused, Refusal, refusal, put}
+use Rattle.device.specs.Disk.{Bytes, Disk, Fate, writes, flushes, settled, possibilities, Told, good, refused, Refusal, put}
 use Rattle.device.specs.Plans.{Plan, call, Runs, one, onward, then, zeroing}
 use Rattle.store.specs.Steps.{storing}
 use Rattle.device.specs.Sectors.{only}

@@ -1,7 +1,7 @@
 -- Sectors that hold a list of exceptions.
 use Rattle.std.specs.Prelude.{◌≡◌, ℕ, ◌+◌, ◌*◌, ◌<◌, ◌≤◌, false, List, [], length, get_or, take, ◌≢◌, slice_index_or}
 use Rattle.std.specs.List.{AllByRecursion}
-use Rattle.device.specs.Disk.{Bytes, good}
+use Rattle.device.specs.Disk.{good}
 use Rattle.layout.specs.declared.exception.Exception.{Exception}
 use Rattle.layout.specs.Chunks.{per_area, area_start}
 use Rattle.layout.specs.Entries.{nothing, nth_entry, pic, Fits}

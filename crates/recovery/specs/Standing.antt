@@ -1,5 +1,5 @@
 -- A list of exceptions that stands on a device, and what a power cut in the middle of a call leaves of it.
-use Rattle.std.specs.Prelude.{◌≡◌, ℕ, ◌+◌, ◌*◌, ◌<◌, ◌≤◌, true, ◌⊎◌, List, [], ◌∷◌, ◌++◌, length}
+use Rattle.std.specs.Prelude.{◌≡◌, ℕ, ◌+◌, ◌*◌, ◌<◌, ◌≤◌, true, List, length}
 use Rattle.std.specs.List.{ContainsAt as Has, AllByRecursion}
 use Rattle.device.specs.Disk.{Bytes, possibilities, Disk, good}
 use Rattle.layout.specs.declared.chunk.ChunkSize.{ChunkSize}

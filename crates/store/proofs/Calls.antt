@@ -10,7 +10,7 @@ use Rattle.exceptions.specs.Table.{entries_at_most, new_at, lookup, has_old, nex
 use Rattle.layout.specs.Chunks.{per_area, area_chunk, in_copy}
 use Rattle.store.specs.declared.shape.Shape.{Shape}
 use Rattle.store.specs.Judge.{width, on_data}
-use Rattle.store.specs.Refusals.{StoreRefusal, StoreSteps, because, up, doing}
+use Rattle.store.specs.Refusals.{StoreRefusal, because, up, doing}
 use Rattle.store.specs.Steps.{entering, dropping, entered_at, enter, drop_run, only_call, at_chunk, chunk_read, chunk_write}
 
 looked : (table : List Exception) (o : Option ℕ) → is_some (new_at table o) ≡ is_some o

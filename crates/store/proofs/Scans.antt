@@ -1,7 +1,7 @@
 -- The scan, one area and one entry further on.
-use Rattle.std.proofs.Common.{◌≡◌, ℕ, suc, ◌+◌, ◌-◌, ◌*◌, ◌<◌, ◌≤◌, true, false, cond, eqb, leb, List, [], ◌∷◌, ◌++◌, length, Some, None, Option, sym, refl, ap, ◌∙◌, subst, arith}
+use Rattle.std.proofs.Common.{◌≡◌, ℕ, suc, ◌+◌, ◌-◌, ◌*◌, ◌<◌, ◌≤◌, true, false, cond, eqb, leb, List, [], ◌∷◌, ◌++◌, length, Some, None, Option, sym, ap, ◌∙◌, subst, arith}
 use Rattle.std.proofs.lemmas.Bool.{eq-eqb, ne_eqb, cond-true, cond-false}
-use Rattle.device.specs.Disk.{Bytes, Disk, Told, good, refused, Refusal}
+use Rattle.device.specs.Disk.{Bytes, Disk, Told, refused, Refusal}
 use Rattle.device.specs.Plans.{Plan, done, bind, onward, raised, gathering, Filled, reading_into, one, Runs}
 use Rattle.device.proofs.Gathers.{handed_by, read_gathers}
 use Rattle.device.proofs.Steps.{Comes, same, still, ends_as, ◌⨾◌, ran}

@@ -1,6 +1,6 @@
 -- What opening finds on a COW device: one function of what its sectors read.
-use Rattle.std.specs.Prelude.{ℕ, zero, suc, ◌+◌, ◌-◌, ◌*◌, ◌/◌, ◌%◌, Bool, true, cond, not, ◌&&◌, List, [], ◌∷◌, ◌++◌, length, take, replicate, ◌==◌, nat_le}
-use Rattle.device.specs.Disk.{Bytes, Disk, Told, good, refused}
+use Rattle.std.specs.Prelude.{ℕ, ◌-◌, ◌*◌, ◌/◌, ◌%◌, Bool, true, cond, ◌&&◌, [], ◌∷◌, ◌++◌, length, take, replicate, ◌==◌, nat_le}
+use Rattle.device.specs.Disk.{Bytes, Told, good, refused}
 use Rattle.layout.specs.declared.chunk.ChunkSize.{ChunkSize}
 use Rattle.layout.specs.declared.header.Header.{Header}
 use Rattle.layout.specs.Chunks.{sectors}

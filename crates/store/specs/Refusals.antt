@@ -1,7 +1,7 @@
 -- Why a store refuses, and plans that may be refused so.
 use Rattle.std.specs.Prelude.{ℕ}
 use Rattle.device.specs.Disk.{Bytes, Op, Told, Refusal}
-use Rattle.device.specs.Plans.{Plan, bind, onward, raised, lifted, step}
+use Rattle.device.specs.Plans.{Plan, bind, onward, raised, step}
 
 -- a refusal: its number, the place (a sector, a chunk or an area), and the entry within that area
 pub record StoreRefusal : Type 0 where

@@ -1,7 +1,7 @@
 -- How an opening reads the areas: each is read whole, and then its entries are looked at in order.
 use Rattle.std.specs.Prelude.{ℕ, zero, suc, ◌+◌, ◌/◌, cond, List, [], ◌∷◌, ◌++◌, length, ◌==◌, nat_le}
 use Rattle.device.specs.Disk.{Bytes, Told, good, refused}
-use Rattle.device.specs.Plans.{Plan, done, bind, onward, raised, gathering}
+use Rattle.device.specs.Plans.{done, bind, onward, raised, gathering}
 use Rattle.layout.specs.declared.exception.Exception.{Exception}
 use Rattle.layout.specs.Chunks.{per_area, area_start}
 use Rattle.layout.specs.Entries.{nth_entry}

@@ -1,5 +1,5 @@
 -- The steps of a store on its device.
-use Rattle.std.specs.Prelude.{ℕ, zero, suc, ◌+◌, ◌-◌, ◌*◌, ◌/◌, Bool, true, false, cond, not, ◌&&◌, ◌||◌, List, [], ◌∷◌, ◌++◌, length, drop, replicate, Some, None, Option, ◌==◌, nat_lt}
+use Rattle.std.specs.Prelude.{ℕ, zero, suc, ◌+◌, ◌-◌, ◌*◌, ◌/◌, Bool, true, false, cond, not, ◌||◌, List, [], ◌∷◌, ◌++◌, length, drop, replicate, Some, None, Option, ◌==◌, nat_lt}
 use Rattle.device.specs.Disk.{Bytes, Op, reads, writes, flushes, Told, good, refused, Refusal}
 use Rattle.device.specs.Plans.{Plan, done, call, onward, then, lifted, Steps, zeroing, spreading, gathering}
 use Rattle.layout.specs.declared.exception.Exception.{Exception}

@@ -1,4 +1,4 @@
-use Rattle.std.proofs.Common.{sym, refl, ◌∙◌}
+use Rattle.std.proofs.Common.{sym, ◌∙◌}
 use Rattle.store.proofs.Writes.{zero_more, zero_not, zero_all}
 use Rattle.store.proofs.clean.is_zero.Goals as goal
 

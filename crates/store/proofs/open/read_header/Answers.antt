@@ -1,7 +1,7 @@
-use Rattle.std.proofs.Common.{sym, refl, ap, ◌∙◌}
+use Rattle.std.proofs.Common.{sym, ap, ◌∙◌}
 use Rattle.device.specs.Disk.{good}
 use Rattle.device.specs.Plans.{done}
-use Rattle.device.proofs.Steps.{same, ◌⨾◌, called, ends, ends_as}
+use Rattle.device.proofs.Steps.{same, ◌⨾◌, called, ends_as}
 use Rattle.store.specs.Image.{Sizes, header_judged}
 use Rattle.store.proofs.Exits.{passed_value}
 use Rattle.store.proofs.open.read_header.Goals as goal

@@ -1,4 +1,4 @@
-use Rattle.std.proofs.Common.{◌≡◌, ◌+◌, ◌-◌, ◌*◌, ◌<◌, ◌≤◌, true, false, leb, [], ◌∷◌, ◌++◌, length, vec_items, sym, refl, ap, ◌∙◌, arith, lt-ltb, leb-false}
+use Rattle.std.proofs.Common.{◌≡◌, ◌+◌, ◌-◌, true, false, leb, [], ◌∷◌, ◌++◌, length, vec_items, sym, refl, ap, ◌∙◌, arith, lt-ltb, leb-false}
 use Rattle.std.proofs.lemmas.Bool.{and_from, cond-true}
 use Rattle.device.specs.Disk.{good}
 use Rattle.device.proofs.Steps.{same, ◌⨾◌, ends, ends_as}

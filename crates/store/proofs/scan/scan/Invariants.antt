@@ -1,4 +1,4 @@
-use Rattle.std.proofs.Common.{◌≡◌, ◌-◌, ◌*◌, [], length, None, vec_items}
+use Rattle.std.proofs.Common.{◌≡◌, ◌-◌, [], None, vec_items}
 use Rattle.device.specs.Plans.{one}
 use Rattle.device.proofs.Steps.{Comes}
 use Rattle.layout.specs.Chunks.{per_area}

@@ -1,4 +1,4 @@
-use Rattle.std.proofs.Common.{◌-◌, ap}
+use Rattle.std.proofs.Common.{ap}
 use Rattle.device.specs.Plans.{then}
 use Rattle.device.proofs.Steps.{same, stay, ◌⨾◌, called, ends, ends_as, passed_on}
 use Rattle.store.specs.Steps.{finished, flushing}

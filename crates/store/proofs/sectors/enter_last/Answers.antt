@@ -1,4 +1,3 @@
-use Rattle.std.proofs.Common.{◌∙◌}
 use Rattle.device.proofs.Steps.{◌⨾◌, called, ran, led, ends, ends_as, passed_on}
 use Rattle.store.proofs.Writes.{stored}
 use Rattle.store.proofs.sectors.enter_last.Goals as goal

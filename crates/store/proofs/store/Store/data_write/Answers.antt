@@ -1,4 +1,4 @@
-use Rattle.std.proofs.Common.{[], sym, refl, ap}
+use Rattle.std.proofs.Common.{sym, refl, ap}
 use Rattle.device.specs.Disk.{writes, good}
 use Rattle.device.specs.Plans.{done, onward}
 use Rattle.device.proofs.Steps.{same, ◌⨾◌, called, ends, ends_as}

@@ -1,6 +1,6 @@
-use Rattle.std.proofs.Common.{◌≡◌, ◌-◌, ◌<◌, length, take, vec_items, sym, refl, ap, ◌∙◌, ap₂, arith}
+use Rattle.std.proofs.Common.{◌≡◌, ◌-◌, length, take, vec_items, refl, ap, ◌∙◌, ap₂, arith}
 use Rattle.device.specs.Disk.{good}
-use Rattle.device.proofs.Steps.{same, ◌⨾◌, ran, ends, ends_as}
+use Rattle.device.proofs.Steps.{same, ◌⨾◌, ran, ends_as}
 use Rattle.layout.specs.Chunks.{sectors}
 use Rattle.exceptions.specs.Table.{last_run, without_run}
 use Rattle.store.proofs.Exits.{passed_up, refused_case}

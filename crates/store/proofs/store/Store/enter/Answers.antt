@@ -1,4 +1,4 @@
-use Rattle.std.proofs.Common.{◌≡◌, ◌/◌, ◌≤◌, false, length, take, is_some, vec_items, sym, refl, ap, ◌∙◌, div-le_self, arith}
+use Rattle.std.proofs.Common.{◌≡◌, ◌≤◌, false, length, take, is_some, vec_items, sym, refl, ap, ◌∙◌, div-le_self, arith}
 use Rattle.std.proofs.lemmas.List.{take_at}
 use Rattle.device.specs.Disk.{good}
 use Rattle.device.proofs.Steps.{same, ◌⨾◌, ran, ends, ends_as}

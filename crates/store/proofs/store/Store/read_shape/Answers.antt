@@ -1,6 +1,6 @@
 use Rattle.std.proofs.Common.{◌/◌, refl}
 use Rattle.device.specs.Disk.{good}
-use Rattle.device.proofs.Steps.{ran, ends, ends_as}
+use Rattle.device.proofs.Steps.{ran, ends_as}
 use Rattle.store.proofs.Exits.{passed_value}
 use Rattle.store.proofs.store.Store.read_shape.Goals as goal
 
