@@ -30,5 +30,6 @@ pub trait Device {
     fn flush(&mut self) -> Result<(), DeviceFault>
         ensures { Called flushes (disk self.old) (told result []) (disk self.new) };
 
+    // What holds of it at all times, which each `impl` has to prove.
     ghost whole: { (x : Self) → Whole (disk x) };
 }

@@ -11,5 +11,5 @@ pub trait PowerCut: Device {
 
     // Nothing is left only of a device that was off and that no power brings back.
     fn power_cut(self) -> Option<Self::Left>
-        ensures { MatchOption result ((Self.Device.disk self).on ≡ false) (λ x. Cut (Self.Device.disk self) (Self.Left.Device.disk x)) };
+        ensures { MatchOption result ((Self.disk self).on ≡ false) (λ x. Cut (Self.disk self) (Self.Left.disk x)) };
 }

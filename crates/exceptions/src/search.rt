@@ -12,7 +12,7 @@ pub trait Keyed<K> {
 
 // The place of the first record with the key, or nothing.
 pub fn find<K, R: Keyed<K>>(records: &[R], key: u64) -> Option<usize>
-    ensures first { result ≡ first_place R.Keyed.keyed key records.now }
+    ensures first { result ≡ first_place R.keyed key records.now }
     ensures within { IfSome result (λ i. i < length records.now) }
 {
     if records.is_empty() {

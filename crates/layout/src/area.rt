@@ -36,7 +36,7 @@ pub fn entry_at(bytes: &[u8], place: u32) -> Exception
 // Writes entries to the front of a buffer.
 fn put_entries(out: &mut [u8], entries: &[Exception])
     requires { 16 * length entries.now ≤ length out.old }
-    ensures { out.new ≡ flat_map entry entries.entry.now ++ drop (16 * length entries.entry.now) out.old }
+    ensures { out.new ≡ flat_map entry entries.now ++ drop (16 * length entries.now) out.old }
 {
     for (k, e) in entries.iter().enumerate() {
         let at = ENTRY * k;
@@ -46,7 +46,7 @@ fn put_entries(out: &mut [u8], entries: &[Exception])
 
 // Sector number `j` of all areas' sectors: the exceptions that it has, and zeros after them.
 pub fn picture(es: &[Exception], j: u32) -> [u8; 512]
-    ensures { result ≡ pic es.entry.now j }
+    ensures { result ≡ pic es.now j }
 {
     let from = es.len().min(32 * j as usize);
     let to = es.len().min(32 * j as usize + 32);
