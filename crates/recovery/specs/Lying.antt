@@ -1,5 +1,5 @@
--- A list that an opening finds in sectors that hold bytes: where it was found and the bytes are known, a good opening makes it stand.
--- The theorems of Breaks and Calls again, with this said of the list beside that it is found.
+-- A list that an opening finds in sectors that hold bytes. The theorems of Readings, Standing, Breaks and Calls that speak of a list that is
+-- found, with more said of it.
 use Rattle.std.specs.Prelude.{◌≡◌, ℕ, ◌+◌, ◌-◌, ◌*◌, ◌/◌, ◌^◌, ◌<◌, ◌≤◌, true, false, ◌⊎◌, List, [], length, take, Some}
 use Rattle.std.specs.List.{AllByRecursion, ContainsAt as Has}
 use Rattle.device.specs.Disk.{Disk, possibilities, Told, good, refused, Refusal, refusal, Cut}
