@@ -3,7 +3,7 @@ use Rattle.std.proofs.Common.{◌≡◌, ℕ, ◌+◌, ◌*◌, ◌/◌, ◌%◌
 use borrow.Author.Tests.{not-true, eqb-false}
 use Rattle.std.proofs.lemmas.Bool.{and_parts, and_from, eq-eqb, cond-true, cond-false}
 use Rattle.device.specs.Disk.{Bytes, Disk, Op, Told, Refusal, good, refused}
-use Rattle.device.specs.Plans.{Plan, Runs, one, done, lifted, gathering, spreading, writing_from}
+use Rattle.device.specs.Plans.{Plan, Runs, one, done, bind, raised, lifted, spreading, reading_into, writing_from}
 use Rattle.device.proofs.Gathers.{writes_spread}
 use Rattle.layout.specs.declared.exception.Exception.{Exception}
 use Rattle.exceptions.specs.Table.{entries_at_most, new_at, lookup, has_old, next_place, fills_area, has_room, room, without_run}
@@ -68,37 +68,41 @@ drop_on c (x ∷ xs) h = refl
 abbrev pub first_of : Shape → ℕ → Told StoreRefusal ℕ
 first_of s k = cond (on_data s k) (good (k * width s)) (refused (because 2 k 0))
 
--- a data chunk, whose first sector is n
+-- what is chosen for a data chunk, whose first sector is n
 module _ (s : Shape) (k n : ℕ) (start : good n ≡ first_of s k) where
-  chunk_on : {A : Type 0} (p : Plan (Unit {0}) (Told Refusal A)) → at_chunk s k p ≡ lifted up p
-  chunk_on {A} p = go (on_data s k) start
+  chosen : {X : Type 0} (x y : X) → cond (on_data s k) x y ≡ x
+  chosen {X} x y = go (on_data s k) start
     where
-      go : (b : Bool) → good n ≡ cond b (good (k * width s)) (refused (because 2 k 0)) → cond b (lifted up p) (done (refused (because 2 k 0))) ≡ lifted up p
+      go : (b : Bool) → good n ≡ cond b (good (k * width s)) (refused (because 2 k 0)) → cond b x y ≡ x
       go true h = refl
       go false h = absurd (let z : ◌≡◌ {A = ℕ} 0 1 = cc in omega arith)
 
   first_is : k * width s ≡ n
-  first_is = go (on_data s k) start
-    where
-      go : (b : Bool) → good n ≡ cond b (good (k * width s)) (refused (because 2 k 0)) → k * width s ≡ n
-      go true h = cc
-      go false h = absurd (let z : ◌≡◌ {A = ℕ} 0 1 = cc in omega arith)
+  first_is = let h = start ∙ chosen (good (k * width s)) (refused (because 2 k 0)) in cc
 
   -- one sector of a copy there
   pub copy_on : (sector c : ℕ) (o : ℕ → Op) → c ≡ width s → at_chunk s k (only_call (o (in_copy (width s) k sector))) ≡ lifted up (only_call (o (n + sector % c)))
-  copy_on sector c o is = chunk_on (only_call (o (in_copy (width s) k sector))) ∙ ap₂ (λ a b. lifted up (only_call (o (a + sector % b)))) first_is (sym is)
+  copy_on sector c o is = chosen (lifted up (only_call (o (in_copy (width s) k sector)))) _ ∙ ap₂ (λ a b. lifted up (only_call (o (a + sector % b)))) first_is (sym is)
 
-  pub read_on : (len : ℕ) → len ≡ 512 * width s → chunk_read s k len ≡ lifted up (gathering n (width s) [])
-  read_on len long = cond-true (eqb len (512 * width s)) _ _ (eq-eqb _ _ long) ∙ chunk_on (gathering (k * width s) (width s) []) ∙ ap (λ a. lifted up (gathering a (width s) [])) first_is
+  pub read_on : (buffer : Bytes) → length buffer ≡ 512 * width s → chunk_read s k buffer ≡ bind (reading_into n buffer) (λ f. done (raised up f.answer, f.buffer))
+  read_on buffer long =
+      cond-true (eqb (length buffer) (512 * width s)) _ _ (eq-eqb _ _ long) ∙ chosen _ _ ∙ ap (λ a. bind (reading_into a buffer) (λ f. done (raised up f.answer, f.buffer))) first_is
 
   pub write_on : (bytes : Bytes) → length bytes ≡ 512 * width s → chunk_write s k bytes ≡ lifted up (writing_from n bytes)
   write_on bytes long =
-      cond-true (eqb (length bytes) (512 * width s)) _ _ (eq-eqb _ _ long) ∙ chunk_on (spreading (k * width s) (width s) bytes) ∙ ap (λ a. lifted up (spreading a (width s) bytes)) first_is ∙ ap (lifted up) (sym (writes_spread n bytes (width s) long))
+      cond-true (eqb (length bytes) (512 * width s)) _ _ (eq-eqb _ _ long) ∙ chosen _ _ ∙ ap (λ a. lifted up (spreading a (width s) bytes)) first_is ∙ ap (lifted up) (sym (writes_spread n bytes (width s) long))
 
--- no data chunk
-pub write_off : (s : Shape) (k : ℕ) (bytes : Bytes) {f : StoreRefusal} → refused f ≡ first_of s k → length bytes ≡ 512 * width s → chunk_write s k bytes ≡ done (refused f)
-write_off s k bytes {f} start long = cond-true (eqb (length bytes) (512 * width s)) _ _ (eq-eqb _ _ long) ∙ go (on_data s k) start
-  where
-    go : (b : Bool) → refused f ≡ cond b (good (k * width s)) (refused (because 2 k 0)) → cond b (lifted up (spreading (k * width s) (width s) bytes)) (done (refused (because 2 k 0))) ≡ done (refused f)
-    go true h = absurd (let z : ◌≡◌ {A = ℕ} 0 1 = cc in omega arith)
-    go false h = let same : because 2 k 0 ≡ f = cc in ap (λ x. done (refused x)) same
+-- what is chosen where there is no data chunk
+module _ (s : Shape) (k : ℕ) {f : StoreRefusal} (none : refused f ≡ first_of s k) where
+  refused_there : {X : Type 0} (x : X) (y : StoreRefusal → X) → cond (on_data s k) x (y (because 2 k 0)) ≡ y f
+  refused_there {X} x y = go (on_data s k) none
+    where
+      go : (b : Bool) → refused f ≡ cond b (good (k * width s)) (refused (because 2 k 0)) → cond b x (y (because 2 k 0)) ≡ y f
+      go true h = absurd (let z : ◌≡◌ {A = ℕ} 0 1 = cc in omega arith)
+      go false h = let same : because 2 k 0 ≡ f = cc in ap y same
+
+  pub read_off : (buffer : Bytes) → length buffer ≡ 512 * width s → chunk_read s k buffer ≡ done (refused f, buffer)
+  read_off buffer long = cond-true (eqb (length buffer) (512 * width s)) _ _ (eq-eqb _ _ long) ∙ refused_there _ (λ r. done (refused r, buffer))
+
+  pub write_off : (bytes : Bytes) → length bytes ≡ 512 * width s → chunk_write s k bytes ≡ done (refused f)
+  write_off bytes long = cond-true (eqb (length bytes) (512 * width s)) _ _ (eq-eqb _ _ long) ∙ refused_there _ (λ r. done (refused r))

@@ -1,7 +1,7 @@
 -- The steps of a store on its device.
 use Rattle.std.specs.Prelude.{ℕ, zero, suc, ◌+◌, ◌-◌, ◌*◌, ◌/◌, Bool, true, false, cond, not, ◌||◌, List, [], ◌∷◌, ◌++◌, length, drop, replicate, Some, None, Option, ◌==◌, nat_lt}
 use Rattle.device.specs.Disk.{Bytes, Op, reads, writes, flushes, Told, good, refused, Refusal}
-use Rattle.device.specs.Plans.{Plan, done, call, onward, then, lifted, Steps, zeroing, spreading, gathering}
+use Rattle.device.specs.Plans.{Plan, done, call, bind, onward, then, raised, lifted, Steps, zeroing, spreading, reading_into}
 use Rattle.layout.specs.declared.exception.Exception.{Exception}
 use Rattle.layout.specs.declared.chunk.ChunkSize.{ChunkSize}
 use Rattle.layout.specs.Chunks.{sectors, per_area, area_start, area_place, in_copy}
@@ -145,9 +145,12 @@ copy_read s k sector len = at_chunk s k (only_call (reads len (in_copy (width s)
 abbrev pub copy_write : Shape → ℕ → ℕ → Bytes → StoreSteps Bytes
 copy_write s k sector bytes = at_chunk s k (only_call (writes (in_copy (width s) k sector) bytes))
 
--- a whole data chunk read into so many bytes
-abbrev pub chunk_read : Shape → ℕ → ℕ → StoreSteps Bytes
-chunk_read s k len = cond (len == 512 * width s) (at_chunk s k (gathering (k * width s) (width s) [])) (done (refused (because 1 0 0)))
+-- a whole data chunk read into a buffer: the answer, and the buffer, which a refusal for its length or the chunk leaves as it was
+abbrev pub chunk_read : Shape → ℕ → Bytes → Plan (Unit {0}) (Told StoreRefusal (Unit {0}) × Bytes)
+chunk_read s k buffer =
+    cond (length buffer == 512 * width s)
+    (cond (on_data s k) (bind (reading_into (k * width s) buffer) (λ f. done (raised up f.answer, f.buffer))) (done (refused (because 2 k 0), buffer)))
+    (done (refused (because 1 0 0), buffer))
 
 -- a whole data chunk written
 abbrev pub chunk_write : Shape → ℕ → Bytes → StoreSteps (Unit {0})

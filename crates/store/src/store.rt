@@ -314,9 +314,9 @@ impl<C: Device> Store<C> {
         Ok(())
     }
 
-    // Reads a whole data chunk.
+    // Reads a whole data chunk. Where a sector of it is refused, those before it have been read.
     pub fn chunk_read(&mut self, chunk: u64, buffer: &mut [u8]) -> Result<(), StoreFault>
-        ensures call { Runs one (chunk_read (shaped 0 (C.disk self.old.cow).count self.old.size) chunk (length buffer.old)) (C.disk self.old.cow) (told result buffer.new) (C.disk self.new.cow) }
+        ensures call { Runs one (chunk_read (shaped 0 (C.disk self.old.cow).count self.old.size) chunk buffer.old) (C.disk self.old.cow) (told result tt, buffer.new) (C.disk self.new.cow) }
         ensures size { self.new.size ≡ self.old.size }
         ensures table { self.new.table ≡ self.old.table }
     {

@@ -111,6 +111,8 @@ fn data_chunks(rt: HostRuntime) -> Result<(), Fail> {
     assert_eq!(rt; sector[0], b'b');
     assert!(rt; matches!(store.chunk_read(2, &mut sector), Err(StoreFault::Length)));
     assert!(rt; matches!(store.chunk_read(1, &mut chunk), Err(StoreFault::Chunk(1))));
+    assert_eq!(rt; sector[0], b'b');
+    assert_eq!(rt; chunk[1023], b'b');
     assert!(rt;
         matches!(
             store.copy_read(30, 7, &mut sector),

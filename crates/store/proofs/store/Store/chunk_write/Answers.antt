@@ -12,7 +12,7 @@ returns-in_err-first g c =
     let bytes = c.args.bytes.now in
     let s = shaped 0 (g.C.Device.disk self.cow).count self.size in
     let long : length bytes ≡ 512 * sectors self.size = omega (arith, c.sectors.ensures) in
-    record { call = ends_as (passed c.from_residual.result tt _ c.from_residual.ensures.1) (same (write_off s c.args.chunk bytes c.in_err-first.ensures.start long)); size = refl; table = refl }
+    record { call = ends_as (passed c.from_residual.result tt _ c.from_residual.ensures.1) (same (write_off s c.args.chunk c.in_err-first.ensures.start bytes long)); size = refl; table = refl }
 
 pub returns-in_err-write_sectors : goal.returns-in_err-write_sectors
 returns-in_err-write_sectors g c =
