@@ -12,6 +12,7 @@ mod rules;
 #[cfg(test)]
 mod tests;
 
+pub use checks::SECTOR;
 pub use device::Device;
 pub use fault::DeviceFault;
 pub use fuse::FuseDevice;
