@@ -2,10 +2,12 @@
 #![tactic(auto)]
 
 use anyhow::anyhow;
-use device::{Device, DeviceFault, FuseDevice, PlainDevice, PowerCut, read_sectors, write_sectors};
+use device::{
+    Device, DeviceFault, FuseDevice, PlainDevice, PowerCut, SECTOR, read_sectors, write_sectors,
+};
 use std::alloc::{AllocError, Global};
-
-const SECTOR: usize = 512;
+use std::error::Error;
+use std::fmt;
 
 const SECTORS: usize = 8;
 
@@ -13,13 +15,25 @@ const OLD: u8 = b'o';
 
 const NEW: u8 = b'n';
 
-// A refusal that this program does not expect, in words.
-fn expected<T>(answer: Result<T, DeviceFault>) -> anyhow::Result<T> {
-    match answer {
-        Ok(value) => Ok(value),
-        Err(DeviceFault::Length) => Err(anyhow!("a buffer has the wrong length")),
-        Err(DeviceFault::Place(_)) => Err(anyhow!("a sector is not on the device")),
-        Err(DeviceFault::Gone(_)) => Err(anyhow!("a device is gone")),
+// A refusal that this program does not expect.
+#[derive(Debug, Drop)]
+struct Unexpected(DeviceFault);
+
+impl fmt::Display for Unexpected {
+    fn fmt<W: fmt::Write>(&self, f: &mut fmt::Formatter<W>) -> fmt::Result {
+        f.write_str(match self.0 {
+            DeviceFault::Length => "a buffer has the wrong length",
+            DeviceFault::Place(_) => "a sector is not on the device",
+            DeviceFault::Gone(_) => "a device is gone",
+        })
+    }
+}
+
+impl Error for Unexpected {}
+
+impl From<DeviceFault> for Unexpected {
+    fn from(fault: DeviceFault) -> Unexpected {
+        Unexpected(fault)
     }
 }
 
@@ -28,39 +42,31 @@ fn disk_of(heap: Global, byte: u8) -> Result<PlainDevice, AllocError> {
 }
 
 // Copies a disk sector by sector to another, and makes the copy last.
-fn copy<O: Device, C: Device>(from: &mut O, to: &mut C) -> Result<u32, DeviceFault> {
-    let mut copied = 0;
+fn copy<O: Device, C: Device>(from: &mut O, to: &mut C) -> Result<u32, Unexpected> {
+    let mut sector = [0u8; SECTOR];
     for s in 0..from.sectors() {
-        let mut sector = [0u8; SECTOR];
         read_sectors(from, s, &mut sector)?;
         write_sectors(to, s, &sector)?;
-        copied = s + 1;
     }
     to.flush()?;
-    Ok(copied)
+    Ok(from.sectors())
 }
 
 // Fills every sector with a byte; tells how many sectors were written before a refusal, or all of them.
 fn load<D: Device>(disk: &mut D, byte: u8) -> u32 {
-    let sector = [byte; SECTOR];
-    let mut written = 0;
-    for s in 0..disk.sectors() {
-        match disk.write(s, &sector) {
-            Ok(()) => written = s + 1,
-            Err(_) => return written,
-        }
-    }
-    written
+    let sectors = disk.sectors();
+    (0..sectors)
+        .find(|&s| disk.write(s, &[byte; SECTOR]).is_err())
+        .unwrap_or(sectors)
 }
 
 // How many sectors are full of a byte.
-fn count_full<D: Device>(disk: &mut D, byte: u8) -> Result<u32, DeviceFault> {
-    let full = [byte; SECTOR];
+fn count_full<D: Device>(disk: &mut D, byte: u8) -> Result<u32, Unexpected> {
+    let mut sector = [0u8; SECTOR];
     let mut found = 0;
     for s in 0..disk.sectors() {
-        let mut sector = [0u8; SECTOR];
         disk.read(s, &mut sector)?;
-        if sector == full {
+        if sector == [byte; SECTOR] {
             found += 1;
         }
     }
@@ -75,7 +81,7 @@ fn run(rt: &HostRuntime) -> anyhow::Result<()> {
         origin.sectors(),
         cow.sectors()
     )?;
-    let copied = expected(copy(&mut origin, &mut cow))?;
+    let copied = copy(&mut origin, &mut cow)?;
     println!(rt; "Copied {copied} sectors of the origin to the COW device, and flushed it.")?;
     let written = load(&mut origin, NEW);
     println!(rt;
@@ -88,10 +94,10 @@ fn run(rt: &HostRuntime) -> anyhow::Result<()> {
     };
     let on = origin.is_on() && cow.is_on();
     println!(rt; "The power was cut. Both devices are on: {on}.")?;
-    let new = expected(count_full(&mut origin, NEW))?;
-    let old = expected(count_full(&mut origin, OLD))?;
+    let new = count_full(&mut origin, NEW)?;
+    let old = count_full(&mut origin, OLD)?;
     println!(rt; "Read back: {new} sectors of the origin are new, and {old} are old.")?;
-    let kept = expected(count_full(&mut cow, OLD))?;
+    let kept = count_full(&mut cow, OLD)?;
     println!(rt; "Read back: {kept} sectors of the COW device are old.")?;
     Ok(())
 }

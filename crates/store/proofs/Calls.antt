@@ -1,12 +1,12 @@
 -- The store's calls past their tests.
-use Rattle.std.proofs.Common.{◌≡◌, ℕ, ◌+◌, ◌*◌, ◌/◌, ◌%◌, ◌^◌, ◌<◌, ◌≤◌, Bool, true, false, cond, not, ◌&&◌, ◌||◌, eqb, ltb, List, [], ◌∷◌, ◌++◌, length, is_some, Some, None, Option, sym, refl, ap, ◌∙◌, subst, ap₂, subst₂, arith, ltb-true, lt-ltb}
+use Rattle.std.proofs.Common.{◌≡◌, ℕ, ◌+◌, ◌-◌, ◌*◌, ◌/◌, ◌%◌, ◌^◌, ◌<◌, ◌≤◌, Bool, true, false, cond, not, ◌&&◌, ◌||◌, eqb, ltb, List, [], ◌∷◌, ◌++◌, length, take, is_some, Some, None, Option, sym, refl, ap, ◌∙◌, subst, ap₂, subst₂, arith, ltb-true, lt-ltb, length-append}
 use borrow.Author.Tests.{not-true, eqb-false}
 use Rattle.std.proofs.lemmas.Bool.{and_parts, and_from, eq-eqb, cond-true, cond-false}
 use Rattle.device.specs.Disk.{Bytes, Disk, Op, Told, Refusal, good, refused}
 use Rattle.device.specs.Plans.{Plan, Runs, one, done, bind, raised, lifted, spreading, reading_into, writing_from}
 use Rattle.device.proofs.Gathers.{writes_spread}
 use Rattle.layout.specs.declared.exception.Exception.{Exception}
-use Rattle.exceptions.specs.Table.{entries_at_most, new_at, lookup, has_old, next_place, fills_area, has_room, room, without_run}
+use Rattle.exceptions.specs.Table.{entries_at_most, new_at, lookup, has_old, next_place, fills_area, has_room, room, last_run, without_run}
 use Rattle.layout.specs.Chunks.{per_area, area_chunk, in_copy}
 use Rattle.store.specs.declared.shape.Shape.{Shape}
 use Rattle.store.specs.Judge.{width, on_data}
@@ -50,13 +50,15 @@ module _ (s : Shape) (table : List Exception) (old p : ℕ) where
       let new : p < 2 ^ 32 = omega (arith, room.place) in
       is ∙ cond-true r _ _ (taken ∙ and_from _ _ (lt-ltb _ _ below) (and_from _ _ (lt-ltb _ _ low) (lt-ltb _ _ new)))
 
--- the steps of entering and dropping, with the list and the count written another way
-module _ {d e : Disk} {t : Told Refusal (Unit {0})} where
-  pub entered : (c : ℕ) (list : List Exception) (n : ℕ) (list' : List Exception) (n' : ℕ) → list ≡ list' → n ≡ n' → Runs one (entering c list n) d t e → Runs one (entering c list' n') d t e
-  entered c list n list' n' a b r = subst₂ (λ x y. Runs one (entering c x y) d t e) a b r
+  -- the steps of entering it, with the list written another way
+  pub entered : {list : List Exception} {d e : Disk} {t : Told Refusal (Unit {0})} → list ≡ longer → Runs one (entering (width s) list (length list - 1)) d t e → Runs one (entering (width s) longer (length table)) d t e
+  entered {list} {d} {e} {t} is r =
+      let count : length longer - 1 ≡ length table = ap (λ n. n - 1) (length-append table _) ∙ omega arith in
+      subst₂ (λ l n. Runs one (entering (width s) l n) d t e) is (ap (λ l. length l - 1) is ∙ count) r
 
-  pub dropped : (c : ℕ) (list : List Exception) (n : ℕ) (list' : List Exception) (n' : ℕ) → list ≡ list' → n ≡ n' → Runs one (dropping c list n) d t e → Runs one (dropping c list' n') d t e
-  dropped c list n list' n' a b r = subst₂ (λ x y. Runs one (dropping c x y) d t e) a b r
+-- the steps of dropping, with what is kept written another way
+pub dropped : (c : ℕ) (table : List Exception) {left : ℕ} {d e : Disk} {t : Told Refusal (Unit {0})} → left ≡ length table - last_run c table → Runs one (dropping c (take left table) (length table)) d t e → Runs one (dropping c (without_run c table) (length table)) d t e
+dropped c table {d = d} {e = e} {t = t} is r = subst (λ k. Runs one (dropping c (take k table) (length table)) d t e) is r
 
 pub drop_on : (c : ℕ) (table : List Exception) → 0 < length table → drop_run c table ≡ doing (dropping c (without_run c table) (length table)) (λ _. done (good (without_run c table)))
 drop_on c [] h = absurd (omega arith)

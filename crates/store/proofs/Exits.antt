@@ -7,9 +7,9 @@ use Rattle.device.specs.Answers.{number, where_at}
 use Rattle.layout.specs.declared.exception.Exception.{Exception}
 use Rattle.store.specs.declared.fault.StoreFault.{StoreFault}
 use Rattle.store.specs.declared.fault.StoreFault.TheVariants.{Device}
-use Rattle.store.specs.declared.scan.End.{End}
+use Rattle.store.specs.declared.spot.Spot.{Spot}
 use Rattle.store.specs.Refusals.{up}
-use Rattle.store.specs.Answers.{told, gave, told_end, numbers}
+use Rattle.store.specs.Answers.{told, gave, told_spot, numbers}
 
 -- where a device refused with y
 pub passed_up : {A B : Type 0} (r : Result A StoreFault) (b : B) (y : DeviceFault) → IsErrAnd r (λ x. x ≡ Device y) → told r b ≡ refused (up (refusal (number y) (where_at y)))
@@ -17,7 +17,7 @@ passed_up (Ok a) b y h = absurd h
 passed_up (Err x) b y h = ap (λ z. refused (numbers z)) h
 
 -- the same of a scan
-pub scan_passed_up : (r : Result End StoreFault) (es : List Exception) (bytes : Bytes) (y : DeviceFault) → IsErrAnd r (λ x. x ≡ Device y) → told_end r es bytes ≡ refused (up (refusal (number y) (where_at y)))
+pub scan_passed_up : (r : Result Spot StoreFault) (es : List Exception) (bytes : Bytes) (y : DeviceFault) → IsErrAnd r (λ x. x ≡ Device y) → told_spot r es bytes ≡ refused (up (refusal (number y) (where_at y)))
 scan_passed_up (Ok a) es bytes y h = absurd h
 scan_passed_up (Err x) es bytes y h = ap (λ z. refused (numbers z)) h
 

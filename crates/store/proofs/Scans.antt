@@ -9,14 +9,21 @@ use Rattle.layout.specs.declared.exception.Exception.{Exception}
 use Rattle.layout.specs.Chunks.{per_area, area_start}
 use Rattle.layout.specs.Entries.{nth_entry}
 use Rattle.store.specs.declared.shape.Shape.{Shape}
-use Rattle.store.specs.declared.scan.End.{End}
+use Rattle.store.specs.declared.spot.Spot.{Spot}
 use Rattle.store.specs.Judge.{width, damaged}
 use Rattle.store.specs.Refusals.{StoreRefusal, because, up}
 use Rattle.store.specs.Scanning.{Parsed, full, over, many, wrong, judged, parsed, Ending, concluded, scanning}
 
--- an area was read, and the rest of the scan goes by its bytes
+-- what an area came to, and then the next areas
+abbrev pub ruling : Shape → ℕ → Bytes → Parsed → Plan (Unit {0}) (Told StoreRefusal Ending)
+ruling s a bytes p = concluded done a bytes p (scanning s (65 - (a + 1)) (a + 1))
+
+-- an area was read, and the rest of the scan goes by its bytes from entry k on, after the exceptions es
+abbrev pub judging : Shape → ℕ → Bytes → ℕ → List Exception → Plan (Unit {0}) (Told StoreRefusal Ending)
+judging s a bytes k es = ruling s a bytes (parsed s a bytes (per_area (width s) - k) k es)
+
 abbrev pub scanning_on : Shape → ℕ → List Exception → Told Refusal Bytes → Plan (Unit {0}) (Told StoreRefusal Ending)
-scanning_on s a es t = onward (raised up t) (λ bytes. concluded done a bytes (parsed s a bytes (per_area (width s)) 0 es) (scanning s (65 - (a + 1)) (a + 1)))
+scanning_on s a es t = onward (raised up t) (λ bytes. ruling s a bytes (parsed s a bytes (per_area (width s)) 0 es))
 
 module _ (s : Shape) (a : ℕ) (es : List Exception) where
   scanning_more : a < 65 → scanning s (65 - a) a es ≡ bind (gathering (area_start (width s) a) (width s) []) (scanning_on s a es)
@@ -33,15 +40,11 @@ module _ {p₀ : Plan (Unit {0}) (Told StoreRefusal Ending)} {d₀ : Disk} (s : 
   got es first buffer {f} {d} {d'} inv h is long r =
       inv ⨾ same (scanning_more s a es h) ⨾ ran _ (subst (λ n. Runs one (gathering n (width s) []) d (handed_by f) d') is (read_gathers first buffer (width s) long r))
 
-  pub so : (bytes : Bytes) {d : Disk} {p q : Parsed} → Comes one p₀ d₀ (concluded done a bytes p (scanning s (65 - (a + 1)) (a + 1))) d → p ≡ q → Comes one p₀ d₀ (concluded done a bytes q (scanning s (65 - (a + 1)) (a + 1))) d
-  so bytes inv e = inv ⨾ same (ap (λ x. concluded done a bytes x (scanning s (65 - (a + 1)) (a + 1))) e)
+  pub so : (bytes : Bytes) {d : Disk} {p q : Parsed} → Comes one p₀ d₀ (ruling s a bytes p) d → p ≡ q → Comes one p₀ d₀ (ruling s a bytes q) d
+  so bytes inv e = inv ⨾ same (ap (ruling s a bytes) e)
 
--- the end entry's place is known or it is not
-pub neither : {X : Type 0} {o p : Option End} {e : End} → o ≡ Some e → o ≡ p → p ≡ None → X
-neither a b c = absurd (let z : ◌≡◌ {A = ℕ} 0 1 = cc in omega arith)
-
-pub just : {o : Option End} {e f : End} → o ≡ Some e → o ≡ Some f → e ≡ f
-just a b = cc
+pub none_judged : (s : Shape) (a : ℕ) (bytes : Bytes) (es : List Exception) → parsed s a bytes (per_area (width s)) 0 es ≡ parsed s a bytes (per_area (width s) - 0) 0 es
+none_judged s a bytes es = let same : per_area (width s) ≡ per_area (width s) - 0 = omega arith in ap (λ n. parsed s a bytes n 0 es) same
 
 pub closes : {p₀ : Plan (Unit {0}) (Told StoreRefusal Ending)} {d₀ d d' : Disk} {x y : Told StoreRefusal Ending} → Comes one p₀ d₀ (done x) d → y ≡ x → d ≡ d' → Runs one p₀ d₀ y d'
 closes c e f = ends_as e (c ⨾ still f)

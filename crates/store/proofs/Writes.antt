@@ -1,31 +1,40 @@
 -- Plans written another way, and the plans of loops one turn at a time.
-use Rattle.std.proofs.Common.{◌≡◌, ℕ, suc, ◌+◌, ◌-◌, ◌*◌, ◌/◌, ◌<◌, ◌≤◌, true, false, ◌&&◌, eqb, List, [], ◌++◌, length, get_or, take, drop, replicate, ap, ◌∙◌, subst, ap₂, subst₂, append-nil, arith, length-append, length-drop, length-take-le}
+use Rattle.std.proofs.Common.{◌≡◌, ℕ, suc, ◌+◌, ◌-◌, ◌*◌, ◌/◌, ◌<◌, ◌≤◌, true, false, List, [], ◌++◌, length, take, drop, replicate, refl, sym, ap, ◌∙◌, subst, ap₂, subst₂, append-nil, arith, length-append, length-drop, length-take-le}
 use borrow.Rule.Slice.PartMut.{put_mid}
 use lib.ListN.{length-replicate}
-use Rattle.std.proofs.lemmas.List.{drop_more, drop_all, take_all}
-use Rattle.std.proofs.lemmas.Bool.{eq-eqb, ne_eqb, and_left, cond-true, cond-false}
-use Rattle.device.specs.Disk.{Bytes, Disk, Told, Refusal, writes, Called}
-use Rattle.device.specs.Plans.{Runs, one, then, zeroing, spreading, writing_from}
+use Rattle.std.proofs.lemmas.List.{drop_all, take_all}
+use Rattle.std.proofs.lemmas.Bool.{cond-true, cond-false}
+use Rattle.device.specs.Disk.{Bytes, Disk, Told, good, refused, Refusal, writes, Called}
+use Rattle.device.specs.Plans.{Runs, one, call, bind, onward, then, Steps, zeroing, spreading, writing_from}
 use Rattle.device.proofs.Gathers.{writes_spread}
 use Rattle.layout.specs.declared.exception.Exception.{Exception}
-use Rattle.layout.specs.Chunks.{area_start, area_place}
+use Rattle.layout.specs.declared.chunk.ChunkSize.{ChunkSize}
+use Rattle.layout.specs.Chunks.{sectors, area_start, area_place}
 use Rattle.layout.specs.Entries.{pic}
 use Rattle.store.specs.Image.{all_zero, cleaned}
 use Rattle.store.specs.Scanning.{Ending}
-use Rattle.store.specs.Steps.{finished, writing, flushing, storing, unwinding, cleaning}
+use Rattle.store.specs.Steps.{finished, writing, flushing, storing, unwinding, dropping, cleaning}
 
 pub written : (s : ℕ) (bytes : Bytes) {s' : ℕ} {bytes' : Bytes} {d e : Disk} {t : Told Refusal Bytes} → s ≡ s' → bytes ≡ bytes' → Called (writes s bytes) d t e → Called (writes s' bytes') d t e
 written s bytes {d = d} {e = e} {t = t} a b r = subst₂ (λ x y. Called (writes x y) d t e) a b r
+
+-- one sector made to last is so many sectors made to last
+onward_onward : (k : Steps) (t : Told Refusal Bytes) → bind (onward t (λ _. finished)) (λ u. onward u (λ _. k)) ≡ onward t (λ _. k)
+onward_onward k (good b) = refl
+onward_onward k (refused f) = refl
+
+storing_one : (s : ℕ) (bytes : Bytes) → length bytes ≡ 512 → then (spreading s 1 bytes) (λ _. flushing finished) ≡ storing s bytes
+storing_one s bytes long = λ i. call tt (writes s (take_all 512 bytes (omega (arith, long)) i)) (λ t. onward_onward (flushing finished) t i)
 
 module _ {d e : Disk} {t : Told Refusal (Unit {0})} where
   pub zeroed : (s n : ℕ) {s' n' : ℕ} → s ≡ s' → n ≡ n' → Runs one (zeroing s n) d t e → Runs one (zeroing s' n') d t e
   zeroed s n a b r = subst₂ (λ x y. Runs one (zeroing x y) d t e) a b r
 
-  pub stored : (s : ℕ) (bytes : Bytes) {s' : ℕ} {bytes' : Bytes} → s ≡ s' → bytes ≡ bytes' → Runs one (storing s bytes) d t e → Runs one (storing s' bytes') d t e
-  stored s bytes a b r = subst₂ (λ x y. Runs one (storing x y) d t e) a b r
-
   pub spread : (s : ℕ) (bytes : Bytes) (s' : ℕ) (bytes' : Bytes) (n : ℕ) → s ≡ s' → bytes ≡ bytes' → length bytes' ≡ 512 * n → Runs one (then (writing_from s bytes) (λ _. flushing finished)) d t e → Runs one (then (spreading s' n bytes') (λ _. flushing finished)) d t e
   spread s bytes s' bytes' n a b long r = subst (λ p. Runs one (then p (λ _. flushing finished)) d t e) (ap₂ writing_from a b ∙ writes_spread s' bytes' n long) r
+
+  pub stored : (s : ℕ) (bytes : Bytes) (s' : ℕ) (bytes' : Bytes) → s ≡ s' → bytes ≡ bytes' → length bytes' ≡ 512 → Runs one (then (writing_from s bytes) (λ _. flushing finished)) d t e → Runs one (storing s' bytes') d t e
+  stored s bytes s' bytes' a b long r = subst (λ p. Runs one p d t e) (storing_one s' bytes' long) (spread s bytes s' bytes' 1 a b (omega (arith, long)) r)
 
 -- sectors downwards, from one above the highest
 module _ (c : ℕ) (kept : List Exception) (low j : ℕ) where
@@ -38,16 +47,11 @@ module _ (c : ℕ) (kept : List Exception) (low j : ℕ) where
   pub unwinding_none : j ≤ low → unwinding c kept low (j - low) ≡ finished
   unwinding_none h = let none : j - low ≡ 0 = omega arith in ap (unwinding c kept low) none
 
--- zeros, one byte further on
-module _ (bytes : Bytes) (i : ℕ) where
-  pub zero_more : i < length bytes → get_or bytes i 0 ≡ 0 → all_zero (drop i bytes) ≡ all_zero (drop (i + 1) bytes)
-  zero_more h z = ap all_zero (drop_more bytes i 0 h) ∙ ap (λ x. x && all_zero (drop (i + 1) bytes)) (eq-eqb (get_or bytes i 0) 0 z)
-
-  pub zero_not : i < length bytes → (get_or bytes i 0 ≡ 0 → ⊥) → all_zero (drop i bytes) ≡ false
-  zero_not h z = ap all_zero (drop_more bytes i 0 h) ∙ and_left (eqb (get_or bytes i 0) 0) (all_zero (drop (i + 1) bytes)) (ne_eqb (get_or bytes i 0) 0 z)
-
-  pub zero_all : length bytes ≤ i → all_zero (drop i bytes) ≡ true
-  zero_all h = ap all_zero (drop_all i bytes h)
+-- the steps of dropping, by the list that is kept and the sectors between
+pub dropping_from : (c : ℕ) (es kept : List Exception) (left low high : ℕ) → left < length es → kept ≡ take left es → low ≡ left / 32 → high ≡ (length es - 1) / 32 + 1 → dropping c (take left es) (length es) ≡ then (unwinding c kept low (high - low)) (λ _. flushing finished)
+dropping_from c es kept left low high less is a b =
+    let first : length (take left es) / 32 ≡ low = ap (λ k. k / 32) (length-take-le left es (omega (arith, less))) ∙ sym a in
+    λ i. then (unwinding c (sym is i) (first i) (sym b i - first i)) (λ _. flushing finished)
 
 -- CLEANING
 
@@ -60,6 +64,10 @@ module _ (c : ℕ) (e : Ending) where
 
   pub cleaning_some : all_zero (drop (16 * e.place) e.bytes) ≡ false → cleaning c e ≡ then (spreading (area_start c e.area + e.place / 32) (c - e.place / 32) (drop (512 * (e.place / 32)) (cleaned e.bytes e.place))) (λ _. flushing finished)
   cleaning_some h = cond-false (all_zero (drop (16 * e.place) e.bytes)) _ _ h
+
+-- cleaning, with the size of chunks written another way
+pub resized : {a b : ChunkSize} (x : Ending) {d e : Disk} {t : Told Refusal (Unit {0})} → a ≡ b → Runs one (cleaning (sectors a) x) d t e → Runs one (cleaning (sectors b) x) d t e
+resized x {d} {e} {t} is r = subst (λ size. Runs one (cleaning (sectors size) x) d t e) is r
 
 -- the part of a slice from a place on
 pub rest_all : {X : Type 0} (a : ℕ) (xs : List X) → take (length xs - a) (drop a xs) ≡ drop a xs

@@ -6,7 +6,7 @@ use Rattle.layout.specs.declared.exception.Exception.{Exception}
 use Rattle.layout.specs.Headers.{number as header_number}
 use Rattle.store.specs.declared.fault.StoreFault.{StoreFault}
 use Rattle.store.specs.declared.fault.StoreFault.TheVariants.{Device, Head, Length, Chunk, Sector, Full, Invalid, Misshaped, Damaged, TooMany}
-use Rattle.store.specs.declared.scan.End.{End}
+use Rattle.store.specs.declared.spot.Spot.{Spot}
 use Rattle.store.specs.Refusals.{StoreRefusal, because, up}
 use Rattle.store.specs.Scanning.{Ending, ending}
 
@@ -34,6 +34,6 @@ gave (Ok a) = good a
 gave (Err e) = refused (numbers e)
 
 -- a scan's answer, with the exceptions and the last area's bytes
-abbrev pub told_end : Result End StoreFault → List Exception → Bytes → Told StoreRefusal Ending
-told_end (Ok e) es bytes = good (ending es e.area e.place bytes)
-told_end (Err f) es bytes = refused (numbers f)
+abbrev pub told_spot : Result Spot StoreFault → List Exception → Bytes → Told StoreRefusal Ending
+told_spot (Ok e) es bytes = good (ending es e.area e.entry bytes)
+told_spot (Err f) es bytes = refused (numbers f)

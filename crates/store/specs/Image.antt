@@ -1,5 +1,6 @@
 -- What opening finds on a COW device: one function of what its sectors read.
 use Rattle.std.specs.Prelude.{ℕ, ◌-◌, ◌*◌, ◌/◌, ◌%◌, Bool, true, cond, ◌&&◌, [], ◌∷◌, ◌++◌, length, take, replicate, ◌==◌, nat_le}
+use Rattle.std.specs.List.{list_all}
 use Rattle.device.specs.Disk.{Bytes, Told, good, refused}
 use Rattle.layout.specs.declared.chunk.ChunkSize.{ChunkSize}
 use Rattle.layout.specs.declared.header.Header.{Header}
@@ -27,8 +28,7 @@ header_found z bytes = header_judged z (header_read bytes)
 
 -- all bytes are zero
 abbrev pub all_zero : Bytes → Bool
-all_zero [] = true
-all_zero (b ∷ bs) = b == 0 && all_zero bs
+all_zero bytes = list_all (λ b. b == 0) bytes
 
 -- an area's bytes with zeros from entry k on
 abbrev pub cleaned : Bytes → ℕ → Bytes

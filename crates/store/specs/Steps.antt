@@ -1,6 +1,6 @@
 -- The steps of a store on its device.
 use Rattle.std.specs.Prelude.{ℕ, zero, suc, ◌+◌, ◌-◌, ◌*◌, ◌/◌, Bool, true, false, cond, not, ◌||◌, List, [], ◌∷◌, ◌++◌, length, drop, replicate, Some, None, Option, ◌==◌, nat_lt}
-use Rattle.device.specs.Disk.{Bytes, Op, reads, writes, flushes, Told, good, refused, Refusal}
+use Rattle.device.specs.Disk.{Bytes, Disk, Op, reads, writes, flushes, Told, good, refused, Refusal}
 use Rattle.device.specs.Plans.{Plan, done, call, bind, onward, then, raised, lifted, Steps, zeroing, spreading, reading_into}
 use Rattle.layout.specs.declared.exception.Exception.{Exception}
 use Rattle.layout.specs.declared.chunk.ChunkSize.{ChunkSize}
@@ -76,6 +76,10 @@ pub record Contents : Type 0 where
 -- what stays the same of a store: the size of its chunks, and the chunks of both devices
 abbrev pub shaped : ℕ → ℕ → ChunkSize → Shape
 shaped olds cow size = record { size = size; olds = olds; chunks = cow / sectors size }
+
+-- the same of the COW device alone, where no origin is asked of
+abbrev pub in_chunks : Disk → ChunkSize → Shape
+in_chunks d size = shaped 0 d.count size
 
 -- the same by the sectors of both devices
 abbrev pub shape_of : Sizes → ChunkSize → Shape

@@ -7,9 +7,10 @@ mod open;
 mod scan;
 mod sectors;
 mod shape;
+mod spot;
 mod store;
 #[cfg(test)]
 mod tests;
 
 pub use fault::StoreFault;
-pub use store::Store;
+pub use store::{Store, WORK};

@@ -11,7 +11,7 @@ use crate::clean::clean;
 use crate::fault::StoreFault;
 use crate::scan::scan;
 use crate::shape::Shape;
-use device::Device;
+use device::{Device, SECTOR};
 use exceptions::ExceptionTable;
 use layout::{ChunkSize, Header, decode_header};
 
@@ -34,7 +34,7 @@ pub fn read_header<D: Device>(device: &mut D, origin: u32) -> Result<ChunkSize, 
     ensures { Runs one (heading (record { origin = origin; cow = (D.disk device.old).count })) (D.disk device.old) (gave result) (D.disk device.new) }
 {
     let cow = device.sectors();
-    let mut sector = [0u8; 512];
+    let mut sector = [0u8; SECTOR];
     device.read(0, &mut sector)?;
     let header = decode_header(&sector)?;
     judge_header(header, origin, cow)
@@ -47,10 +47,11 @@ pub fn load<D: Device>(
     shape: Shape,
     bytes: &mut [u8],
 ) -> Result<(), StoreFault>
-    requires { (length bytes.old ≡ 512 * width shape) × (table.old.items.items ≡ []) }
+    requires area { length bytes.old ≡ 512 * width shape }
+    requires empty { table.old.items.items ≡ [] }
     ensures { Runs one (loading shape) (D.disk device.old) (told result table.new.items.items) (D.disk device.new) }
 {
     let end = scan(device, table, shape, bytes)?;
-    clean(device, shape.size, end, bytes)?;
+    clean(device, end, bytes)?;
     Ok(())
 }

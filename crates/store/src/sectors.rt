@@ -1,20 +1,21 @@
 // The sectors of a store that are written: the header, and sectors of areas.
-ghost use Rattle.std.specs.Prelude.{◌≡◌, ◌+◌, ◌*◌, ◌/◌, ◌<◌, ◌≤◌, true, false, length};
+ghost use Rattle.std.specs.Prelude.{◌≡◌, ◌+◌, ◌-◌, ◌*◌, ◌/◌, ◌<◌, true, false, length, take};
 ghost use Rattle.device.specs.Answers.{told};
-ghost use Rattle.device.specs.Plans.{Runs, one};
+ghost use Rattle.device.specs.Plans.{Runs, one, then, writing_from};
 ghost use Rattle.layout.specs.Chunks.{sectors, per_area, area_place as place_of};
 ghost use Rattle.exceptions.specs.Table.{fills_area};
-ghost use Rattle.store.specs.Steps.{storing, making, spoiling, preparing, entering, dropping};
+ghost use Rattle.store.specs.Steps.{finished, flushing, making, spoiling, preparing, entering, dropping};
 
 use crate::shape::area_sector;
-use device::{Device, DeviceFault, write_zeros};
-use layout::{ChunkSize, Exception, Header, encode_header, picture};
+use device::{Device, DeviceFault, SECTOR, write_sectors, write_zeros};
+use exceptions::ExceptionTable;
+use layout::{ChunkSize, Header, encode_header, picture};
 
-// Writes a sector and makes it last.
-fn store_sector<D: Device>(device: &mut D, sector: u32, bytes: &[u8]) -> Result<(), DeviceFault>
-    ensures { Runs one (storing sector bytes.now) (D.disk device.old) (told result tt) (D.disk device.new) }
+// Writes whole sectors and makes them last.
+pub fn write_lasting<D: Device>(device: &mut D, first: u32, bytes: &[u8]) -> Result<(), DeviceFault>
+    ensures { Runs one (then (writing_from first bytes.now) (λ _. flushing finished)) (D.disk device.old) (told result tt) (D.disk device.new) }
 {
-    device.write(sector, bytes)?;
+    write_sectors(device, first, bytes)?;
     device.flush()?;
     Ok(())
 }
@@ -23,18 +24,18 @@ fn store_sector<D: Device>(device: &mut D, sector: u32, bytes: &[u8]) -> Result<
 pub fn make<D: Device>(device: &mut D, size: ChunkSize) -> Result<(), DeviceFault>
     ensures { Runs one (making (sectors size)) (D.disk device.old) (told result tt) (D.disk device.new) }
 {
-    device.write(0, &[0u8; 512])?;
+    device.write(0, &[0u8; SECTOR])?;
     device.flush()?;
     write_zeros(device, area_sector(size, 0), size.sectors())?;
     device.flush()?;
-    store_sector(device, 0, &encode_header(Header { valid: true, size }))
+    write_lasting(device, 0, &encode_header(Header { valid: true, size }))
 }
 
 // The header says from now on that the snapshot is invalid.
 pub fn spoil<D: Device>(device: &mut D, size: ChunkSize) -> Result<(), DeviceFault>
     ensures { Runs one (spoiling (sectors size)) (D.disk device.old) (told result tt) (D.disk device.new) }
 {
-    store_sector(device, 0, &encode_header(Header { valid: false, size }))
+    write_lasting(device, 0, &encode_header(Header { valid: false, size }))
 }
 
 // Where sector number `j` of all areas' sectors stands.
@@ -58,33 +59,35 @@ fn prepare<D: Device>(device: &mut D, size: ChunkSize, n: u32) -> Result<(), Dev
     }
 }
 
-// Writes the last exception of a list.
+// Writes the last exception of a table.
 pub fn enter_last<D: Device>(
     device: &mut D,
     size: ChunkSize,
-    list: &[Exception],
-    n: u32,
+    table: &ExceptionTable,
 ) -> Result<(), DeviceFault>
-    requires { n < 2048 }
-    ensures { Runs one (entering (sectors size) list.now n) (D.disk device.old) (told result tt) (D.disk device.new) }
+    requires { 0 < length table.now.items.items }
+    ensures { Runs one (entering (sectors size) table.now.items.items (length table.now.items.items - 1)) (D.disk device.old) (told result tt) (D.disk device.new) }
 {
+    let n = table.len() as u32 - 1;
     prepare(device, size, n)?;
     device.flush()?;
-    store_sector(device, area_place(size, n / 32), &picture(list, n / 32))
+    let sector = picture(table.as_slice(), n / 32);
+    write_lasting(device, area_place(size, n / 32), &sector)
 }
 
-// Turns a list of `n` exceptions on the device into the shorter one that is kept.
+// Turns the list of a table on the device into its first `left` exceptions.
 pub fn drop_to<D: Device>(
     device: &mut D,
     size: ChunkSize,
-    kept: &[Exception],
-    n: u32,
+    table: &ExceptionTable,
+    left: usize,
 ) -> Result<(), DeviceFault>
-    requires { (length kept.now < n) × (n ≤ 2048) }
-    ensures { Runs one (dropping (sectors size) kept.now n) (D.disk device.old) (told result tt) (D.disk device.new) }
+    requires { left < length table.now.items.items }
+    ensures { Runs one (dropping (sectors size) (take left table.now.items.items) (length table.now.items.items)) (D.disk device.old) (told result tt) (D.disk device.new) }
 {
-    let low = (kept.len() / 32) as u32;
-    let high = (n - 1) / 32 + 1;
+    let kept = &table.as_slice()[..left];
+    let low = left as u32 / 32;
+    let high = (table.len() as u32 - 1) / 32 + 1;
     for j in (low..high).rev() {
         device.write(area_place(size, j), &picture(kept, j))?;
     }

@@ -3,6 +3,7 @@ ghost use Rattle.std.specs.Prelude.{◌≡◌, ◌^◌, ◌<◌, false};
 ghost use Rattle.layout.specs.Chunks.{sectors, area_start};
 ghost use Rattle.store.specs.Judge.{on_data as is_on_data, damaged};
 
+use crate::spot::Spot;
 use exceptions::ExceptionTable;
 use layout::{ChunkSize, Exception};
 
@@ -22,18 +23,17 @@ impl Shape {
         self.size.is_data(chunk) && chunk < u64::from(self.chunks)
     }
 
-    // Whether an entry, number `place` of an area, is damaged after those in the table.
-    pub fn is_damaged(self, table: &ExceptionTable, area: u32, place: u32, e: Exception) -> bool
-        requires { (area < 65) × (place < 512) }
-        ensures damaged { result ≡ damaged self area place table.now.items.items e }
+    // Whether the entry at a spot is damaged after those in the table.
+    pub fn is_damaged(self, table: &ExceptionTable, spot: Spot, e: Exception) -> bool
+        ensures damaged { result ≡ damaged self spot.area spot.entry table.now.items.items e }
         ensures small { result ≡ false → (e.old < 2 ^ 32) × (e.new < 2 ^ 32) }
     {
         e.old >= u64::from(self.olds)
             || !self.on_data(e.new)
             || table.lookup(e.old).is_some()
             || table.holds_new(e.new)
-            || (place + 1 == self.size.entries_per_area()
-                && self.size.area_chunk(area + 1) >= u64::from(self.chunks))
+            || (spot.entry + 1 == self.size.entries_per_area()
+                && self.size.area_chunk(spot.area + 1) >= u64::from(self.chunks))
     }
 }
 

@@ -8,15 +8,18 @@ ghost use Rattle.exceptions.specs.Table.{entries_at_most, lookup as found_copy, 
 ghost use Rattle.store.specs.Answers.{told, gave};
 ghost use Rattle.store.specs.Judge.{on_data};
 ghost use Rattle.store.specs.Refusals.{because, up};
-ghost use Rattle.store.specs.Steps.{shape_heading, opening, finished, flushing, making, spoiling, shaped, enter as entering_chunk, drop_run, data_test, data_read, data_write, copy_read, copy_write, chunk_read, chunk_write};
+ghost use Rattle.store.specs.Steps.{shape_heading, opening, finished, flushing, making, spoiling, shaped, in_chunks, enter as entering_chunk, drop_run, data_test, data_read, data_write, copy_read, copy_write, chunk_read, chunk_write};
 
 use crate::fault::StoreFault;
 use crate::open::{load, read_header};
 use crate::sectors::{drop_to, enter_last, make, spoil};
 use crate::shape::Shape;
-use device::{Device, read_sectors, write_sectors};
+use device::{Device, SECTOR, read_sectors, write_sectors};
 use exceptions::ExceptionTable;
 use layout::{ChunkSize, Exception};
+
+// the bytes that opening works in
+pub const WORK: usize = 8192;
 
 // The COW device, the size of its chunks, and its exceptions. The last two mean something once the store was made or opened.
 #[derive(Drop)]
@@ -61,18 +64,18 @@ impl<C: Device> Store<C> {
         Ok(())
     }
 
-    // Opens what stands on the device, for an origin of so many sectors; the work buffer is 8,192 bytes.
+    // Opens what stands on the device, for an origin of so many sectors; the work buffer is `WORK` bytes.
     pub fn open(&mut self, origin: u32, work: &mut [u8]) -> Result<(), StoreFault>
         ensures call { Runs one (opening (record { origin = origin; cow = (C.disk self.old.cow).count }) (length work.old)) (C.disk self.old.cow) (told result (record { size = self.new.size; table = self.new.table.items.items })) (C.disk self.new.cow) }
         ensures size { OnErr result (self.new.size ≡ self.old.size) }
         ensures table { OnErr result (self.new.table.items.items ≡ []) }
     {
         self.table.clear();
-        if work.len() != 8192 {
+        if work.len() != WORK {
             return Err(StoreFault::Length);
         }
         let shape = self.read_shape(origin)?;
-        let area = 512 * shape.size.sectors() as usize;
+        let area = SECTOR * shape.size.sectors() as usize;
         match load(&mut self.cow, &mut self.table, shape, &mut work[0..area]) {
             Ok(()) => {
                 self.size = shape.size;
@@ -88,8 +91,7 @@ impl<C: Device> Store<C> {
     // The numbers of a store by its header.
     fn read_shape(&mut self, origin: u32) -> Result<Shape, StoreFault>
         ensures call { Runs one (shape_heading (record { origin = origin; cow = (C.disk self.old.cow).count })) (C.disk self.old.cow) (gave result) (C.disk self.new.cow) }
-        ensures size { self.new.size ≡ self.old.size }
-        ensures table { self.new.table ≡ self.old.table }
+        ensures rest { self.new ≡ record self.old { cow = self.new.cow } }
     {
         let cow = self.cow.sectors();
         let size = read_header(&mut self.cow, origin)?;
@@ -103,8 +105,7 @@ impl<C: Device> Store<C> {
     // The header says from now on that the snapshot is invalid.
     pub fn spoil(&mut self) -> Result<(), StoreFault>
         ensures call { Runs one (lifted up (spoiling (sectors self.old.size))) (C.disk self.old.cow) (told result tt) (C.disk self.new.cow) }
-        ensures size { self.new.size ≡ self.old.size }
-        ensures table { self.new.table ≡ self.old.table }
+        ensures rest { self.new ≡ record self.old { cow = self.new.cow } }
     {
         spoil(&mut self.cow, self.size)?;
         Ok(())
@@ -204,7 +205,7 @@ impl<C: Device> Store<C> {
         };
         let n = self.table.len();
         self.table.push(Exception { old, new });
-        match enter_last(&mut self.cow, self.size, self.table.as_slice(), n as u32) {
+        match enter_last(&mut self.cow, self.size, &self.table) {
             Ok(()) => Ok(()),
             Err(fault) => {
                 self.table.truncate(n);
@@ -225,21 +226,15 @@ impl<C: Device> Store<C> {
             return Ok(());
         }
         let left = n - run;
-        drop_to(
-            &mut self.cow,
-            self.size,
-            &self.table.as_slice()[0..left],
-            n as u32,
-        )?;
+        drop_to(&mut self.cow, self.size, &self.table, left)?;
         self.table.truncate(left);
         Ok(())
     }
 
     // Reads a sector of a data chunk.
     pub fn data_read(&mut self, sector: u32, buffer: &mut [u8]) -> Result<(), StoreFault>
-        ensures call { Runs one (data_read (shaped 0 (C.disk self.old.cow).count self.old.size) sector (length buffer.old)) (C.disk self.old.cow) (told result buffer.new) (C.disk self.new.cow) }
-        ensures size { self.new.size ≡ self.old.size }
-        ensures table { self.new.table ≡ self.old.table }
+        ensures call { Runs one (data_read (in_chunks (C.disk self.old.cow) self.old.size) sector (length buffer.old)) (C.disk self.old.cow) (told result buffer.new) (C.disk self.new.cow) }
+        ensures rest { self.new ≡ record self.old { cow = self.new.cow } }
         ensures untouched { OnErr result (buffer.new ≡ buffer.old) }
     {
         self.check_data(sector, buffer.len())?;
@@ -249,9 +244,8 @@ impl<C: Device> Store<C> {
 
     // Writes a sector of a data chunk.
     pub fn data_write(&mut self, sector: u32, bytes: &[u8]) -> Result<(), StoreFault>
-        ensures call { Runs one (data_write (shaped 0 (C.disk self.old.cow).count self.old.size) sector bytes.now) (C.disk self.old.cow) (told result tt) (C.disk self.new.cow) }
-        ensures size { self.new.size ≡ self.old.size }
-        ensures table { self.new.table ≡ self.old.table }
+        ensures call { Runs one (data_write (in_chunks (C.disk self.old.cow) self.old.size) sector bytes.now) (C.disk self.old.cow) (told result tt) (C.disk self.new.cow) }
+        ensures rest { self.new ≡ record self.old { cow = self.new.cow } }
     {
         self.check_data(sector, bytes.len())?;
         self.cow.write(sector, bytes)?;
@@ -260,9 +254,9 @@ impl<C: Device> Store<C> {
 
     // Whether so many bytes are a sector, and the sector is one of a data chunk.
     fn check_data(&self, sector: u32, len: usize) -> Result<(), StoreFault>
-        ensures { told result tt ≡ data_test (shaped 0 (C.disk self.now.cow).count self.now.size) sector len }
+        ensures { told result tt ≡ data_test (in_chunks (C.disk self.now.cow) self.now.size) sector len }
     {
-        if len != 512 {
+        if len != SECTOR {
             return Err(StoreFault::Length);
         }
         if !self
@@ -276,7 +270,7 @@ impl<C: Device> Store<C> {
 
     // The first sector of a data chunk on the device.
     fn data_start(&self, chunk: u64) -> Result<u32, StoreFault>
-        ensures start { gave result ≡ (if on_data (shaped 0 (C.disk self.now.cow).count self.now.size) chunk then good (chunk * sectors self.now.size) else refused (because 2 chunk 0)) }
+        ensures start { gave result ≡ (if on_data (in_chunks (C.disk self.now.cow) self.now.size) chunk then good (chunk * sectors self.now.size) else refused (because 2 chunk 0)) }
         ensures inside { IfOk result (λ first. first + sectors self.now.size ≤ (C.disk self.now.cow).count) }
     {
         if self.shape(0).on_data(chunk) {
@@ -293,9 +287,8 @@ impl<C: Device> Store<C> {
         sector: u32,
         buffer: &mut [u8],
     ) -> Result<(), StoreFault>
-        ensures call { Runs one (copy_read (shaped 0 (C.disk self.old.cow).count self.old.size) chunk sector (length buffer.old)) (C.disk self.old.cow) (told result buffer.new) (C.disk self.new.cow) }
-        ensures size { self.new.size ≡ self.old.size }
-        ensures table { self.new.table ≡ self.old.table }
+        ensures call { Runs one (copy_read (in_chunks (C.disk self.old.cow) self.old.size) chunk sector (length buffer.old)) (C.disk self.old.cow) (told result buffer.new) (C.disk self.new.cow) }
+        ensures rest { self.new ≡ record self.old { cow = self.new.cow } }
         ensures untouched { OnErr result (buffer.new ≡ buffer.old) }
     {
         let first = self.data_start(chunk)?;
@@ -305,9 +298,8 @@ impl<C: Device> Store<C> {
 
     // Writes it.
     pub fn copy_write(&mut self, chunk: u64, sector: u32, bytes: &[u8]) -> Result<(), StoreFault>
-        ensures call { Runs one (copy_write (shaped 0 (C.disk self.old.cow).count self.old.size) chunk sector bytes.now) (C.disk self.old.cow) (told result []) (C.disk self.new.cow) }
-        ensures size { self.new.size ≡ self.old.size }
-        ensures table { self.new.table ≡ self.old.table }
+        ensures call { Runs one (copy_write (in_chunks (C.disk self.old.cow) self.old.size) chunk sector bytes.now) (C.disk self.old.cow) (told result []) (C.disk self.new.cow) }
+        ensures rest { self.new ≡ record self.old { cow = self.new.cow } }
     {
         let first = self.data_start(chunk)?;
         self.cow.write(first + sector % self.size.sectors(), bytes)?;
@@ -316,11 +308,10 @@ impl<C: Device> Store<C> {
 
     // Reads a whole data chunk. Where a sector of it is refused, those before it have been read.
     pub fn chunk_read(&mut self, chunk: u64, buffer: &mut [u8]) -> Result<(), StoreFault>
-        ensures call { Runs one (chunk_read (shaped 0 (C.disk self.old.cow).count self.old.size) chunk buffer.old) (C.disk self.old.cow) (told result tt, buffer.new) (C.disk self.new.cow) }
-        ensures size { self.new.size ≡ self.old.size }
-        ensures table { self.new.table ≡ self.old.table }
+        ensures call { Runs one (chunk_read (in_chunks (C.disk self.old.cow) self.old.size) chunk buffer.old) (C.disk self.old.cow) (told result tt, buffer.new) (C.disk self.new.cow) }
+        ensures rest { self.new ≡ record self.old { cow = self.new.cow } }
     {
-        if buffer.len() != 512 * self.size.sectors() as usize {
+        if buffer.len() != SECTOR * self.size.sectors() as usize {
             return Err(StoreFault::Length);
         }
         let first = self.data_start(chunk)?;
@@ -330,11 +321,10 @@ impl<C: Device> Store<C> {
 
     // Writes a whole data chunk.
     pub fn chunk_write(&mut self, chunk: u64, bytes: &[u8]) -> Result<(), StoreFault>
-        ensures call { Runs one (chunk_write (shaped 0 (C.disk self.old.cow).count self.old.size) chunk bytes.now) (C.disk self.old.cow) (told result tt) (C.disk self.new.cow) }
-        ensures size { self.new.size ≡ self.old.size }
-        ensures table { self.new.table ≡ self.old.table }
+        ensures call { Runs one (chunk_write (in_chunks (C.disk self.old.cow) self.old.size) chunk bytes.now) (C.disk self.old.cow) (told result tt) (C.disk self.new.cow) }
+        ensures rest { self.new ≡ record self.old { cow = self.new.cow } }
     {
-        if bytes.len() != 512 * self.size.sectors() as usize {
+        if bytes.len() != SECTOR * self.size.sectors() as usize {
             return Err(StoreFault::Length);
         }
         let first = self.data_start(chunk)?;
@@ -345,8 +335,7 @@ impl<C: Device> Store<C> {
     // Flushes the COW device.
     pub fn flush(&mut self) -> Result<(), StoreFault>
         ensures call { Runs one (lifted up (flushing finished)) (C.disk self.old.cow) (told result tt) (C.disk self.new.cow) }
-        ensures size { self.new.size ≡ self.old.size }
-        ensures table { self.new.table ≡ self.old.table }
+        ensures rest { self.new ≡ record self.old { cow = self.new.cow } }
     {
         self.cow.flush()?;
         Ok(())

@@ -1,5 +1,5 @@
 // What a store answers, on examples with chunks of one sector, and of two for data.
-use crate::{Store, StoreFault};
+use crate::{Store, StoreFault, WORK};
 use device::{Device, DeviceFault, FuseDevice, PlainDevice, PowerCut};
 use exceptions::ExceptionTable;
 use layout::ChunkSize;
@@ -21,7 +21,7 @@ fn made(rt: &impl Abort, heap: Global) -> Result<Store<PlainDevice>, Fail> {
 // Opens what stands on a device.
 fn opened<C: Device + Drop>(rt: &impl Abort, heap: Global, cow: C) -> Result<Store<C>, Fail> {
     let mut store = Store::new(cow, ExceptionTable::new(heap)?);
-    assert!(rt; store.open(ORIGIN, &mut [0u8; 8192]).is_ok());
+    assert!(rt; store.open(ORIGIN, &mut [0u8; WORK]).is_ok());
     Ok(store)
 }
 
@@ -66,7 +66,7 @@ fn spoilt_is_invalid(rt: HostRuntime) -> Result<(), Fail> {
     assert!(rt; store.spoil().is_ok());
     assert!(rt;
         matches!(
-            store.open(ORIGIN, &mut [0u8; 8192]),
+            store.open(ORIGIN, &mut [0u8; WORK]),
             Err(StoreFault::Invalid)
         )
     );

@@ -1,12 +1,12 @@
-use Rattle.std.proofs.Common.{ap}
+use Rattle.std.proofs.Common.{◌+◌, ◌-◌, ◌/◌, take, vec_items, refl, ap}
 use Rattle.device.specs.Plans.{then}
-use Rattle.device.proofs.Steps.{same, stay, ◌⨾◌, called, ends, ends_as, passed_on}
+use Rattle.device.proofs.Steps.{same, ◌⨾◌, called, ends, ends_as, passed_on}
 use Rattle.store.specs.Steps.{finished, flushing}
-use Rattle.store.proofs.Writes.{written, unwinding_more, unwinding_none}
+use Rattle.store.proofs.Writes.{written, dropping_from, unwinding_more, unwinding_none}
 use Rattle.store.proofs.sectors.drop_to.Goals as goal
 
 pub loop-j-init : goal.loop-j-init
-loop-j-init g c = stay
+loop-j-init g c = same (dropping_from _ (vec_items c.args.table.now.items) _ c.args.left _ _ c.requires (ap (take c.args.left) c.as_slice.ensures) refl (ap (λ n. (n - 1) / 32 + 1) c.len.ensures))
 
 pub returns-in_err-write : goal.returns-in_err-write
 returns-in_err-write g c =

@@ -1,4 +1,4 @@
-use Rattle.std.proofs.Common.{◌-◌}
+use Rattle.std.proofs.Common.{◌-◌, length, take, vec_items}
 use Rattle.device.specs.Plans.{one, then}
 use Rattle.device.proofs.Steps.{Comes}
 use Rattle.layout.specs.Chunks.{sectors}
@@ -9,4 +9,5 @@ abbrev pub invariant-loop-j : goal.invariant-loop-j
 invariant-loop-j g l =
     let disk = g.D.Device.disk in
     let c = sectors l.size in
-    Comes one (dropping c l.kept l.n) (disk l.initial.device) (then (unwinding c l.kept l.low (l.j - l.low)) (λ _. flushing finished)) (disk l.device)
+    let es = vec_items l.table.items in
+    Comes one (dropping c (take l.left es) (length es)) (disk l.initial.device) (then (unwinding c l.kept l.low (l.j - l.low)) (λ _. flushing finished)) (disk l.device)

@@ -29,4 +29,4 @@ returns g c =
     ends
     (called c.in_ok-write.ensures ⨾ called c.in_ok-flush.ensures
     ⨾ ran _ (zeroed c.area_sector.result c.sectors.result c.area_sector.ensures.place c.sectors.ensures c.in_ok-write_zeros.ensures)
-    ⨾ called c.in_ok-flush-2.ensures ⨾ led (stored 0 c.encode_header.result refl c.encode_header.ensures c.store_sector.ensures))
+    ⨾ called c.in_ok-flush-2.ensures ⨾ led (stored 0 c.encode_header.result 0 _ refl c.encode_header.ensures refl c.write_lasting.ensures))

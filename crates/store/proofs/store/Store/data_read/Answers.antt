@@ -11,8 +11,7 @@ returns-in_err-read g c =
     record {
       call = ends_as (passed_up c.from_residual-in_err-read.result _ _ c.from_residual-in_err-read.ensures.1)
           (same (ap (λ t. onward t (λ _. asking (reads (length c.args.buffer.now) c.args.sector) (λ b. done (good b)))) (sym c.in_ok-check_data.ensures)) ⨾ called c.in_err-read.ensures.call);
-      size = refl;
-      table = refl;
+      rest = refl;
       untouched = untouched_on c.from_residual-in_err-read.result c.in_err-read.ensures.untouched;
     }
 
@@ -20,7 +19,6 @@ pub returns : goal.returns
 returns g c =
     record {
       call = ends (same (ap (λ t. onward t (λ _. asking (reads (length c.args.buffer.now) c.args.sector) (λ b. done (good b)))) (sym c.in_ok-check_data.ensures)) ⨾ called c.in_ok-read.ensures.call);
-      size = refl;
-      table = refl;
+      rest = refl;
       untouched = tt;
     }

@@ -11,14 +11,12 @@ returns-in_err-write g c =
     record {
       call = ends_as (passed_up c.from_residual-in_err-write.result tt _ c.from_residual-in_err-write.ensures.1)
           (same (ap (λ t. onward t (λ _. asking (writes c.args.sector c.args.bytes.now) (λ _. done (good tt)))) (sym c.in_ok-check_data.ensures)) ⨾ called c.in_err-write.ensures);
-      size = refl;
-      table = refl;
+      rest = refl;
     }
 
 pub returns : goal.returns
 returns g c =
     record {
       call = ends (same (ap (λ t. onward t (λ _. asking (writes c.args.sector c.args.bytes.now) (λ _. done (good tt)))) (sym c.in_ok-check_data.ensures)) ⨾ called c.in_ok-write.ensures);
-      size = refl;
-      table = refl;
+      rest = refl;
     }

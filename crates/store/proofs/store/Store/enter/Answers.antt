@@ -5,7 +5,7 @@ use Rattle.device.proofs.Steps.{same, ◌⨾◌, ran, ends, ends_as}
 use Rattle.layout.specs.Chunks.{sectors}
 use Rattle.exceptions.specs.Table.{lookup}
 use Rattle.store.specs.Steps.{shaped}
-use Rattle.store.proofs.Calls.{roomy, enter_on, entered, longer, pushed}
+use Rattle.store.proofs.Calls.{roomy, enter_on, entered, pushed}
 use Rattle.store.proofs.store.Store.enter.Goals as goal
 
 pub returns-in-Ok : goal.returns-in-Ok
@@ -20,7 +20,7 @@ returns-in-Ok g c =
     let few : length table ≤ 2048 = omega (arith, self.table.few, self.table.items.ok.0) in
     let list = pushed s table c.args.old p count c.push.ensures.list c.push.ensures.taken few (omega arith) (div-le_self count (sectors self.size)) (g.met.C.Device.whole self.cow).few (roomy _ _ table p there) in
     let plan = enter_on s table c.args.old p none (omega arith) there in
-    record { call = ends_as (ap good list) (same plan ⨾ ran _ (entered _ _ c.len-n.result (longer s table c.args.old p) (length table) (c.as_slice.ensures ∙ list) c.len-n.ensures c.in-Ok.ensures)); size = refl; table = tt }
+    record { call = ends_as (ap good list) (same plan ⨾ ran _ (entered s table c.args.old p list c.in-Ok.ensures)); size = refl; table = tt }
 
 pub returns-in-Err : goal.returns-in-Err
 returns-in-Err g c =
@@ -35,7 +35,7 @@ returns-in-Err g c =
     let list = pushed s table c.args.old p count c.push.ensures.list c.push.ensures.taken few (omega arith) (div-le_self count (sectors self.size)) (g.met.C.Device.whole self.cow).few (roomy _ _ table p there) in
     let plan = enter_on s table c.args.old p none (omega arith) there in
     record {
-      call = ends (same plan ⨾ ran _ (entered _ _ c.len-n.result (longer s table c.args.old p) (length table) (c.as_slice.ensures ∙ list) c.len-n.ensures c.in-Err.ensures));
+      call = ends (same plan ⨾ ran _ (entered s table c.args.old p list c.in-Err.ensures));
       size = refl;
       table = c.truncate.ensures ∙ ap (take c.len-n.result) list ∙ take_at table _ c.len-n.result (sym c.len-n.ensures);
     }
