@@ -11,10 +11,7 @@ use fault::Fault;
 use layout::Exception;
 use run::Run;
 use std::{fs, io};
-use store::Store;
-
-// the bytes that opening works in
-const WORK: usize = 8192;
+use store::{Store, WORK};
 
 // A COW image by its file's name, and the sectors of the origin that it was made for.
 #[derive(Clone, Copy)]
@@ -31,37 +28,19 @@ impl Image {
 
 // One line for each run of exceptions whose two numbers both rise by one.
 fn print_runs(rt: &HostRuntime, exceptions: &[Exception]) -> io::Result<()> {
-    let mut last = None;
-    for e in exceptions {
-        last = match last {
-            Some(run) => Some(grow(rt, run, *e)?),
-            None => Some(Run::of(*e)),
-        };
-    }
-    if let Some(run) = last {
-        println!(rt; "  {run}")?;
+    for run in exceptions.chunk_by(|a, b| follows(*a, *b)) {
+        println!(rt; "  {}", Run(run))?;
     }
     Ok(())
 }
 
-// The run with one more exception, or a new run after this one is printed.
-fn grow(rt: &HostRuntime, run: Run, e: Exception) -> io::Result<Run> {
-    if run.goes_on(e) {
-        return Ok(run.with(e));
-    }
-    println!(rt; "  {run}")?;
-    Ok(Run::of(e))
+fn follows(a: Exception, b: Exception) -> bool {
+    a.old.checked_add(1) == Some(b.old) && a.new.checked_add(1) == Some(b.new)
 }
 
 // How many bytes differ.
 fn count_changed(before: &[u8], after: &[u8]) -> usize {
-    let mut changed = 0;
-    for i in 0..before.len().min(after.len()) {
-        if before[i] != after[i] {
-            changed += 1;
-        }
-    }
-    changed
+    before.iter().zip(after).filter(|(a, b)| a != b).count()
 }
 
 // Opens a store, prints what opening finds or why it refuses, and gives back the bytes that it leaves.
