@@ -1,8 +1,10 @@
 -- The definitions on small closed examples.
-use Rattle.std.specs.Prelude.{◌≡◌, ℕ, true, false, List, [], ◌∷◌, ◌++◌, Some, None, refl}
+use Rattle.std.specs.Prelude.{◌≡◌, ℕ, true, false, List, [], ◌∷◌, ◌++◌, replicate, Some, None, Ok, Err, refl}
 use Rattle.layout.specs.declared.exception.Exception.{Exception}
 use Rattle.exceptions.specs.Search.{first}
 use Rattle.exceptions.specs.Table.{olds, news, lookup, has_old, has_new, next_place, room, last_run, without_run, the_run, allocated, metadata}
+use Rattle.exceptions.specs.declared.fault.TableFault.TheVariants.{Full, TooWide}
+use Rattle.exceptions.specs.Push.{push_test}
 use Rattle.exceptions.specs.Edges.{exception, four, grown}
 
 -- SEARCH
@@ -37,6 +39,24 @@ old_stands = refl
 -- 5 is an old chunk and no new one
 pub new_free : has_new twice 5 ≡ false
 new_free = refl
+
+-- PUSH
+
+pub widest_pushed : push_test [] (exception 4294967295 4294967295) ≡ Ok tt
+widest_pushed = refl
+
+pub old_too_wide : push_test four (exception 4294967296 6) ≡ Err TooWide
+old_too_wide = refl
+
+pub new_too_wide : push_test four (exception 6 4294967296) ≡ Err TooWide
+new_too_wide = refl
+
+pub last_pushed : push_test (replicate 2047 (exception 5 2)) (exception 6 3) ≡ Ok tt
+last_pushed = refl
+
+-- a full table refuses first
+pub full_first : push_test (replicate 2048 (exception 5 2)) (exception 4294967296 6) ≡ Err Full
+full_first = refl
 
 -- NEXT PLACE
 

@@ -2,6 +2,7 @@
 #![tactic(auto)]
 
 mod edges;
+mod fault;
 mod figures;
 mod search;
 mod table;
@@ -9,5 +10,6 @@ mod table;
 mod tests;
 
 pub use edges::edges_hold;
+pub use fault::TableFault;
 pub use search::{Keyed, find};
 pub use table::{ExceptionTable, New, Old};

@@ -1,8 +1,9 @@
 // The list of exceptions in memory.
-ghost use Rattle.std.specs.Prelude.{◌≡◌, ◌^◌, ◌<◌, ◌≤◌, ◌&&◌, [], ◌∷◌, ◌++◌, length, take, IfOk, if◌then◌else◌, vec_len, vec_capacity, nat_le, nat_lt};
+ghost use Rattle.std.specs.Prelude.{◌≡◌, ◌<◌, ◌≤◌, [], ◌∷◌, ◌++◌, length, take, is_ok, IfOk, if◌then◌else◌, vec_len, vec_capacity, nat_le};
 ghost use Rattle.layout.specs.Chunks.{sectors};
 ghost use Rattle.exceptions.specs.Table.{Below, olds, news, entries_at_most, lookup, has_new, next_place, room, last_run, allocated, metadata};
 
+use crate::fault::TableFault;
 use crate::figures::{may_enter, metadata_sectors, place_after, run_length};
 use crate::search::{Keyed, find};
 use layout::{ChunkSize, Exception};
@@ -44,60 +45,66 @@ pub struct ExceptionTable {
 }
 
 impl ExceptionTable {
+    ghost use Rattle.exceptions.specs.Listed.{listed};
+    ghost use Rattle.exceptions.specs.Push.{push_test};
+
     pub fn new(heap: Global) -> Result<ExceptionTable, AllocError>
-        ensures { IfOk result (λ t. t.items.items ≡ []) }
+        ensures { IfOk result (λ t. listed t ≡ []) }
     {
         let items = Vec::with_capacity(heap, LIMIT)?;
         Ok(ExceptionTable { items })
     }
 
     pub fn len(&self) -> usize
-        ensures { result ≡ length self.now.items.items }
+        ensures { result ≡ length (listed self.now) }
     {
         self.items.len()
     }
 
     // Whether the table holds as many as it can.
     pub fn is_full(&self) -> bool
-        ensures { result ≡ nat_le entries_at_most (length self.now.items.items) }
+        ensures { result ≡ nat_le entries_at_most (length (listed self.now)) }
     {
         LIMIT <= self.items.len()
     }
 
     pub fn as_slice(&self) -> &[Exception]
-        ensures { result.now ≡ self.now.items.items }
+        ensures { result.now ≡ listed self.now }
     {
         self.items.as_slice()
     }
 
-    // Adds one at the end; refused where the table is full or a number has more than 32 bits.
-    pub fn push(&mut self, e: Exception) -> bool
-        ensures taken { result ≡ nat_lt (length self.old.items.items) entries_at_most && (nat_lt e.old (2 ^ 32) && nat_lt e.new (2 ^ 32)) }
-        ensures list { self.new.items.items ≡ (if result then self.old.items.items ++ (e ∷ []) else self.old.items.items) }
+    // Adds one at the end, unless the table is full or a number has more than 32 bits.
+    pub fn push(&mut self, e: Exception) -> Result<(), TableFault>
+        ensures answer { result ≡ push_test (listed self.old) e }
+        ensures list { listed self.new ≡ (if is_ok result then listed self.old ++ (e ∷ []) else listed self.old) }
     {
-        if self.items.len() >= LIMIT || e.old > 0xffff_ffff || e.new > 0xffff_ffff {
-            return false;
+        if self.items.len() >= LIMIT {
+            return Err(TableFault::Full);
+        }
+        if e.old.max(e.new) > u64::from(u32::MAX) {
+            return Err(TableFault::TooWide);
         }
         self.items.push_reserved(e);
-        true
+        Ok(())
     }
 
     // Keeps the first `n`.
     pub fn truncate(&mut self, n: usize)
-        ensures { self.new.items.items ≡ take n self.old.items.items }
+        ensures { listed self.new ≡ take n (listed self.old) }
     {
         self.items.truncate(n);
     }
 
     pub fn clear(&mut self)
-        ensures { self.new.items.items ≡ [] }
+        ensures { listed self.new ≡ [] }
     {
         self.items.clear();
     }
 
     // The chunk that has the copy of an old chunk, or nothing where no copy exists.
     pub fn lookup(&self, old: u64) -> Option<u64>
-        ensures { result ≡ lookup self.now.items.items old }
+        ensures { result ≡ lookup (listed self.now) old }
     {
         match find::<Old, Exception>(&self.items, old) {
             Some(i) => Some(self.items[i].new),
@@ -107,14 +114,14 @@ impl ExceptionTable {
 
     // Whether a new chunk is taken.
     pub fn holds_new(&self, new: u64) -> bool
-        ensures { result ≡ has_new self.now.items.items new }
+        ensures { result ≡ has_new (listed self.now) new }
     {
         find::<New, Exception>(&self.items, new).is_some()
     }
 
     // The next place on a device of so many chunks, or nothing where an exception has no room.
     pub fn next_place(&self, size: ChunkSize, chunks: u64) -> Option<u64>
-        ensures { result ≡ room entries_at_most (sectors size) chunks self.now.items.items }
+        ensures { result ≡ room entries_at_most (sectors size) chunks (listed self.now) }
     {
         let place = place_after(&self.items, size);
         if may_enter(self.items.len(), place, size, chunks, LIMIT) {
@@ -126,23 +133,23 @@ impl ExceptionTable {
 
     // How many exceptions the last run has.
     pub fn last_run(&self, size: ChunkSize) -> usize
-        ensures run { result ≡ last_run (sectors size) self.now.items.items }
-        ensures within { result ≤ length self.now.items.items }
-        ensures some { 0 < length self.now.items.items → 0 < result }
+        ensures run { result ≡ last_run (sectors size) (listed self.now) }
+        ensures within { result ≤ length (listed self.now) }
+        ensures some { 0 < length (listed self.now) → 0 < result }
     {
         run_length(&self.items, size)
     }
 
     // Sectors up to the next place, even past the device.
     pub fn allocated(&self, size: ChunkSize) -> u64
-        ensures { result ≡ allocated (sectors size) self.now.items.items }
+        ensures { result ≡ allocated (sectors size) (listed self.now) }
     {
         place_after(&self.items, size) * u64::from(size.sectors())
     }
 
     // Sectors of the header and of the areas.
     pub fn metadata(&self, size: ChunkSize) -> u64
-        ensures { result ≡ metadata (sectors size) (length self.now.items.items) }
+        ensures { result ≡ metadata (sectors size) (length (listed self.now)) }
     {
         metadata_sectors(self.items.len(), size)
     }

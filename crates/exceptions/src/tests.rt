@@ -1,5 +1,5 @@
 // What a table answers, on examples.
-use crate::ExceptionTable;
+use crate::{ExceptionTable, TableFault};
 use layout::{ChunkSize, Exception};
 use std::alloc::{AllocError, Global};
 use std::test::Fail;
@@ -21,12 +21,11 @@ fn looks_up(rt: HostRuntime) -> Result<(), Fail> {
     assert_eq!(rt; table.lookup(4), None);
     assert!(rt; table.holds_new(4));
     assert!(rt; !table.holds_new(7));
-    assert!(rt;
-        !table.push(Exception {
-            old: 0x1_0000_0000,
-            new: 6,
-        })
-    );
+    let wide = Exception {
+        old: 0x1_0000_0000,
+        new: 6,
+    };
+    assert_eq!(rt; table.push(wide), Err(TableFault::TooWide));
     assert_eq!(rt; table.len(), 4);
     table.clear();
     assert_eq!(rt; table.lookup(7), None);
@@ -54,14 +53,31 @@ fn fills_an_area(rt: HostRuntime) -> Result<(), Fail> {
     assert_eq!(rt; table.next_place(size, 2), None);
     for old in 0..31 {
         let new = table.next_place(size, 34).ok_or("no room")?;
-        assert!(rt; table.push(Exception { old, new }));
+        assert_eq!(rt; table.push(Exception { old, new }), Ok(()));
     }
     assert_eq!(rt; table.next_place(size, 34), None);
     assert_eq!(rt; table.next_place(size, 35), Some(33));
-    assert!(rt; table.push(Exception { old: 31, new: 33 }));
+    assert_eq!(rt; table.push(Exception { old: 31, new: 33 }), Ok(()));
     assert_eq!(rt; table.next_place(size, 35), None);
     assert_eq!(rt; table.next_place(size, 36), Some(35));
     assert_eq!(rt; table.allocated(size), 35);
     assert_eq!(rt; table.metadata(size), 2);
+    Ok(())
+}
+
+// A full table refuses, whatever the numbers are.
+#[test]
+fn refuses_when_full(rt: HostRuntime) -> Result<(), Fail> {
+    let mut table = ExceptionTable::new(rt.alloc())?;
+    for old in 0..2048 {
+        assert_eq!(rt; table.push(Exception { old, new: old + 2 }), Ok(()));
+    }
+    assert!(rt; table.is_full());
+    let wide = Exception {
+        old: 0x1_0000_0000,
+        new: 6,
+    };
+    assert_eq!(rt; table.push(wide), Err(TableFault::Full));
+    assert_eq!(rt; table.len(), 2048);
     Ok(())
 }
