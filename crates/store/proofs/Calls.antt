@@ -1,17 +1,25 @@
 -- The store's calls past their tests.
-use Rattle.std.proofs.Common.{◌≡◌, ℕ, ◌+◌, ◌-◌, ◌*◌, ◌/◌, ◌%◌, ◌^◌, ◌<◌, ◌≤◌, Bool, true, false, cond, not, ◌&&◌, ◌||◌, eqb, ltb, List, [], ◌∷◌, ◌++◌, length, take, is_some, Some, None, Option, sym, refl, ap, ◌∙◌, subst, ap₂, subst₂, arith, ltb-true, lt-ltb, length-append}
+use Rattle.std.proofs.Common.{◌≡◌, ℕ, ◌+◌, ◌-◌, ◌*◌, ◌/◌, ◌%◌, ◌^◌, ◌<◌, ◌≤◌, Bool, true, false, cond, not, ◌&&◌, ◌||◌, eqb, ltb, List, [], ◌∷◌, ◌++◌, length, take, is_some, is_ok, Ok, Result, leb, Some, None, Option, sym, refl, ap, ◌∙◌, subst, ap₂, subst₂, arith, ltb-true, lt-ltb, length-append}
 use borrow.Author.Tests.{not-true, eqb-false}
-use Rattle.std.proofs.lemmas.Bool.{and_parts, and_from, eq-eqb, cond-true, cond-false}
+use Rattle.std.proofs.lemmas.Bool.{and_parts, and_from, eq-eqb, lt-leb, cond-true, cond-false}
 use Rattle.device.specs.Disk.{Bytes, Disk, Op, Told, Refusal, good, refused}
 use Rattle.device.specs.Plans.{Plan, Runs, one, done, bind, raised, lifted, spreading, reading_into, writing_from}
 use Rattle.device.proofs.Gathers.{writes_spread}
 use Rattle.layout.specs.declared.exception.Exception.{Exception}
 use Rattle.exceptions.specs.Table.{entries_at_most, new_at, lookup, has_old, next_place, fills_area, has_room, room, last_run, without_run}
+use Rattle.exceptions.specs.declared.fault.TableFault.{TableFault}
+use Rattle.exceptions.specs.Push.{push_test}
 use Rattle.layout.specs.Chunks.{per_area, area_chunk, in_copy}
 use Rattle.store.specs.declared.shape.Shape.{Shape}
 use Rattle.store.specs.Judge.{width, on_data}
 use Rattle.store.specs.Refusals.{StoreRefusal, because, up, doing}
 use Rattle.store.specs.Steps.{entering, dropping, entered_at, enter, drop_run, only_call, at_chunk, chunk_read, chunk_write}
+
+-- a table takes one more exception where it is not full, and both numbers have 32 bits
+pub taken : (table : List Exception) (x : Exception) {list : List Exception} {r : Result (Unit {0}) TableFault} → list ≡ cond (is_ok r) (table ++ (x ∷ [])) table → r ≡ push_test table x → leb entries_at_most (length table) ≡ false → x.old < 2 ^ 32 → x.new < 2 ^ 32 → list ≡ table ++ (x ∷ [])
+taken table x {r = r} is answer room old new =
+    let good : r ≡ Ok tt = answer ∙ cond-false _ _ _ room ∙ cond-true _ _ _ (and_from _ _ (lt-ltb _ _ old) (lt-ltb _ _ new)) in
+    is ∙ cond-true (is_ok r) _ _ (ap is_ok good)
 
 looked : (table : List Exception) (o : Option ℕ) → is_some (new_at table o) ≡ is_some o
 looked table None = refl
@@ -44,11 +52,11 @@ module _ (s : Shape) (table : List Exception) (old p : ℕ) where
       cond-false _ _ _ (ap₂ (λ x y. x || not y) absent (lt-ltb old s.olds here)) ∙ ap (entered_at (width s) table old) is
 
   -- the new exception is pushed: there is room, and its numbers have 32 bits
-  pub pushed : {list : List Exception} {r : Bool} (count : ℕ) → list ≡ cond r longer table → r ≡ ltb (length table) entries_at_most && (ltb old (2 ^ 32) && ltb p (2 ^ 32)) → length table ≤ entries_at_most → old < 2 ^ 32 → s.chunks ≤ count → count < 2 ^ 32 → Roomy (width s) s.chunks table p → list ≡ longer
-  pushed {r = r} count is taken few low fits small room =
-      let below : length table < 2048 = omega (arith, room.few) in
-      let new : p < 2 ^ 32 = omega (arith, room.place) in
-      is ∙ cond-true r _ _ (taken ∙ and_from _ _ (lt-ltb _ _ below) (and_from _ _ (lt-ltb _ _ low) (lt-ltb _ _ new)))
+  pub pushed : {list : List Exception} {r : Result (Unit {0}) TableFault} (count : ℕ) → list ≡ cond (is_ok r) longer table → r ≡ push_test table (record { old = old; new = p }) → length table ≤ entries_at_most → old < 2 ^ 32 → s.chunks ≤ count → count < 2 ^ 32 → Roomy (width s) s.chunks table p → list ≡ longer
+  pushed count is answer few low fits small roomy_there =
+      let below : length table < 2048 = omega (arith, roomy_there.few) in
+      let new : p < 2 ^ 32 = omega (arith, roomy_there.place) in
+      taken table (record { old = old; new = p }) is answer (lt-leb _ _ below) low new
 
   -- the steps of entering it, with the list written another way
   pub entered : {list : List Exception} {d e : Disk} {t : Told Refusal (Unit {0})} → list ≡ longer → Runs one (entering (width s) list (length list - 1)) d t e → Runs one (entering (width s) longer (length table)) d t e

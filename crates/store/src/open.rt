@@ -2,6 +2,7 @@
 ghost use Rattle.std.specs.Prelude.{◌≡◌, ◌*◌, [], length};
 ghost use Rattle.device.specs.Disk.{good};
 ghost use Rattle.device.specs.Plans.{Runs, one};
+ghost use Rattle.exceptions.specs.Listed.{listed};
 ghost use Rattle.store.specs.Answers.{told, gave};
 ghost use Rattle.store.specs.Image.{header_judged};
 ghost use Rattle.store.specs.Judge.{width};
@@ -48,8 +49,8 @@ pub fn load<D: Device>(
     bytes: &mut [u8],
 ) -> Result<(), StoreFault>
     requires area { length bytes.old ≡ 512 * width shape }
-    requires empty { table.old.items.items ≡ [] }
-    ensures { Runs one (loading shape) (D.disk device.old) (told result table.new.items.items) (D.disk device.new) }
+    requires empty { listed table.old ≡ [] }
+    ensures { Runs one (loading shape) (D.disk device.old) (told result (listed table.new)) (D.disk device.new) }
 {
     let end = scan(device, table, shape, bytes)?;
     clean(device, end, bytes)?;

@@ -1,6 +1,7 @@
 // The exceptions on a device, area by area.
 ghost use Rattle.std.specs.Prelude.{◌≡◌, ◌*◌, [], length, IfOk};
 ghost use Rattle.device.specs.Plans.{Runs, one};
+ghost use Rattle.exceptions.specs.Listed.{listed};
 ghost use Rattle.store.specs.Answers.{told_spot};
 ghost use Rattle.store.specs.Judge.{width};
 ghost use Rattle.store.specs.Scanning.{most_areas, scanning};
@@ -22,8 +23,8 @@ pub fn scan<D: Device>(
     bytes: &mut [u8],
 ) -> Result<Spot, StoreFault>
     requires area { length bytes.old ≡ 512 * width shape }
-    requires empty { table.old.items.items ≡ [] }
-    ensures call { Runs one (scanning shape most_areas 0 []) (D.disk device.old) (told_spot result table.new.items.items bytes.new) (D.disk device.new) }
+    requires empty { listed table.old ≡ [] }
+    ensures call { Runs one (scanning shape most_areas 0 []) (D.disk device.old) (told_spot result (listed table.new) bytes.new) (D.disk device.new) }
     ensures size { IfOk result (λ end. end.size ≡ shape.size) }
 {
     let size = shape.size;
@@ -43,7 +44,7 @@ pub fn scan<D: Device>(
             if shape.is_damaged(table, spot, e) {
                 return Err(StoreFault::Damaged { area, entry });
             }
-            table.push(e);
+            table.push(e).unwrap();
         }
     }
     end.ok_or(StoreFault::TooMany)

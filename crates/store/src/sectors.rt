@@ -3,6 +3,7 @@ ghost use Rattle.std.specs.Prelude.{◌≡◌, ◌+◌, ◌-◌, ◌*◌, ◌/�
 ghost use Rattle.device.specs.Answers.{told};
 ghost use Rattle.device.specs.Plans.{Runs, one, then, writing_from};
 ghost use Rattle.layout.specs.Chunks.{sectors, per_area, area_place as place_of};
+ghost use Rattle.exceptions.specs.Listed.{listed};
 ghost use Rattle.exceptions.specs.Table.{fills_area};
 ghost use Rattle.store.specs.Steps.{finished, flushing, making, spoiling, preparing, entering, dropping};
 
@@ -65,8 +66,8 @@ pub fn enter_last<D: Device>(
     size: ChunkSize,
     table: &ExceptionTable,
 ) -> Result<(), DeviceFault>
-    requires { 0 < length table.now.items.items }
-    ensures { Runs one (entering (sectors size) table.now.items.items (length table.now.items.items - 1)) (D.disk device.old) (told result tt) (D.disk device.new) }
+    requires { 0 < length (listed table.now) }
+    ensures { Runs one (entering (sectors size) (listed table.now) (length (listed table.now) - 1)) (D.disk device.old) (told result tt) (D.disk device.new) }
 {
     let n = table.len() as u32 - 1;
     prepare(device, size, n)?;
@@ -82,8 +83,8 @@ pub fn drop_to<D: Device>(
     table: &ExceptionTable,
     left: usize,
 ) -> Result<(), DeviceFault>
-    requires { left < length table.now.items.items }
-    ensures { Runs one (dropping (sectors size) (take left table.now.items.items) (length table.now.items.items)) (D.disk device.old) (told result tt) (D.disk device.new) }
+    requires { left < length (listed table.now) }
+    ensures { Runs one (dropping (sectors size) (take left (listed table.now)) (length (listed table.now))) (D.disk device.old) (told result tt) (D.disk device.new) }
 {
     let kept = &table.as_slice()[..left];
     let low = left as u32 / 32;

@@ -1,6 +1,7 @@
 // The numbers of a store that stay, and which entries fit them.
 ghost use Rattle.std.specs.Prelude.{◌≡◌, ◌^◌, ◌<◌, false};
 ghost use Rattle.layout.specs.Chunks.{sectors, area_start};
+ghost use Rattle.exceptions.specs.Listed.{listed};
 ghost use Rattle.store.specs.Judge.{on_data as is_on_data, damaged};
 
 use crate::spot::Spot;
@@ -25,7 +26,7 @@ impl Shape {
 
     // Whether the entry at a spot is damaged after those in the table.
     pub fn is_damaged(self, table: &ExceptionTable, spot: Spot, e: Exception) -> bool
-        ensures damaged { result ≡ damaged self spot.area spot.entry table.now.items.items e }
+        ensures damaged { result ≡ damaged self spot.area spot.entry (listed table.now) e }
         ensures small { result ≡ false → (e.old < 2 ^ 32) × (e.new < 2 ^ 32) }
     {
         e.old >= u64::from(self.olds)

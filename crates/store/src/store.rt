@@ -4,6 +4,7 @@ ghost use Rattle.device.specs.Disk.{good, refused};
 ghost use Rattle.device.specs.Plans.{Runs, one, lifted};
 ghost use Rattle.layout.specs.Chunks.{sectors};
 ghost use Rattle.layout.specs.declared.chunk.ChunkSize.TheVariants.{One as Smallest};
+ghost use Rattle.exceptions.specs.Listed.{listed};
 ghost use Rattle.exceptions.specs.Table.{entries_at_most, lookup as found_copy, room, last_run, allocated, metadata};
 ghost use Rattle.store.specs.Answers.{told, gave};
 ghost use Rattle.store.specs.Judge.{on_data};
@@ -34,7 +35,7 @@ impl<C: Device> Store<C> {
     pub fn new(cow: C, mut table: ExceptionTable) -> Store<C>
         ensures cow { result.cow ≡ cow }
         ensures size { result.size ≡ Smallest }
-        ensures table { result.table.items.items ≡ [] }
+        ensures table { listed result.table ≡ [] }
     {
         table.clear();
         Store {
@@ -56,7 +57,7 @@ impl<C: Device> Store<C> {
     pub fn make(&mut self, size: ChunkSize) -> Result<(), StoreFault>
         ensures call { Runs one (lifted up (making (sectors size))) (C.disk self.old.cow) (told result tt) (C.disk self.new.cow) }
         ensures size { MatchResult result (λ _. self.new.size ≡ size) (λ _. self.new.size ≡ self.old.size) }
-        ensures table { MatchResult result (λ _. self.new.table.items.items ≡ []) (λ _. self.new.table.items.items ≡ self.old.table.items.items) }
+        ensures table { MatchResult result (λ _. listed self.new.table ≡ []) (λ _. listed self.new.table ≡ listed self.old.table) }
     {
         make(&mut self.cow, size)?;
         self.size = size;
@@ -66,9 +67,9 @@ impl<C: Device> Store<C> {
 
     // Opens what stands on the device, for an origin of so many sectors; the work buffer is `WORK` bytes.
     pub fn open(&mut self, origin: u32, work: &mut [u8]) -> Result<(), StoreFault>
-        ensures call { Runs one (opening (record { origin = origin; cow = (C.disk self.old.cow).count }) (length work.old)) (C.disk self.old.cow) (told result (record { size = self.new.size; table = self.new.table.items.items })) (C.disk self.new.cow) }
+        ensures call { Runs one (opening (record { origin = origin; cow = (C.disk self.old.cow).count }) (length work.old)) (C.disk self.old.cow) (told result (record { size = self.new.size; table = (listed self.new.table) })) (C.disk self.new.cow) }
         ensures size { OnErr result (self.new.size ≡ self.old.size) }
-        ensures table { OnErr result (self.new.table.items.items ≡ []) }
+        ensures table { OnErr result (listed self.new.table ≡ []) }
     {
         self.table.clear();
         if work.len() != WORK {
@@ -132,14 +133,14 @@ impl<C: Device> Store<C> {
     }
 
     pub fn exceptions(&self) -> &[Exception]
-        ensures { result.now ≡ self.now.table.items.items }
+        ensures { result.now ≡ listed self.now.table }
     {
         self.table.as_slice()
     }
 
     // The chunk that has the copy of an old chunk, or nothing where no copy exists.
     pub fn lookup(&self, old: u64) -> Option<u64>
-        ensures { result ≡ found_copy self.now.table.items.items old }
+        ensures { result ≡ found_copy (listed self.now.table) old }
     {
         self.table.lookup(old)
     }
@@ -153,29 +154,29 @@ impl<C: Device> Store<C> {
 
     // The place for the next copy, or nothing where an exception has no room.
     pub fn next_place(&self) -> Option<u64>
-        ensures { result ≡ room entries_at_most (sectors self.now.size) ((C.disk self.now.cow).count / sectors self.now.size) self.now.table.items.items }
+        ensures { result ≡ room entries_at_most (sectors self.now.size) ((C.disk self.now.cow).count / sectors self.now.size) (listed self.now.table) }
     {
         self.table.next_place(self.size, u64::from(self.chunks()))
     }
 
     // How many exceptions the last run has.
     pub fn last_run(&self) -> usize
-        ensures run { result ≡ last_run (sectors self.now.size) self.now.table.items.items }
-        ensures within { result ≤ length self.now.table.items.items }
+        ensures run { result ≡ last_run (sectors self.now.size) (listed self.now.table) }
+        ensures within { result ≤ length (listed self.now.table) }
     {
         self.table.last_run(self.size)
     }
 
     // Sectors up to the next place, even past the device.
     pub fn allocated(&self) -> u64
-        ensures { result ≡ allocated (sectors self.now.size) self.now.table.items.items }
+        ensures { result ≡ allocated (sectors self.now.size) (listed self.now.table) }
     {
         self.table.allocated(self.size)
     }
 
     // Sectors of the header and of the areas.
     pub fn metadata(&self) -> u64
-        ensures { result ≡ metadata (sectors self.now.size) (length self.now.table.items.items) }
+        ensures { result ≡ metadata (sectors self.now.size) (length (listed self.now.table)) }
     {
         self.table.metadata(self.size)
     }
@@ -193,9 +194,9 @@ impl<C: Device> Store<C> {
 
     // Enters an old chunk of an origin with so many chunks, at the next place.
     pub fn enter(&mut self, olds: u32, old: u64) -> Result<(), StoreFault>
-        ensures call { Runs one (entering_chunk (shaped olds (C.disk self.old.cow).count self.old.size) self.old.table.items.items old) (C.disk self.old.cow) (told result self.new.table.items.items) (C.disk self.new.cow) }
+        ensures call { Runs one (entering_chunk (shaped olds (C.disk self.old.cow).count self.old.size) (listed self.old.table) old) (C.disk self.old.cow) (told result (listed self.new.table)) (C.disk self.new.cow) }
         ensures size { self.new.size ≡ self.old.size }
-        ensures table { OnErr result (self.new.table.items.items ≡ self.old.table.items.items) }
+        ensures table { OnErr result (listed self.new.table ≡ listed self.old.table) }
     {
         if self.table.lookup(old).is_some() || old >= u64::from(olds) {
             return Err(StoreFault::Chunk(old));
@@ -204,7 +205,7 @@ impl<C: Device> Store<C> {
             return Err(StoreFault::Full(old));
         };
         let n = self.table.len();
-        self.table.push(Exception { old, new });
+        self.table.push(Exception { old, new }).unwrap();
         match enter_last(&mut self.cow, self.size, &self.table) {
             Ok(()) => Ok(()),
             Err(fault) => {
@@ -216,9 +217,9 @@ impl<C: Device> Store<C> {
 
     // Drops the last run from the list.
     pub fn drop_last_run(&mut self) -> Result<(), StoreFault>
-        ensures call { Runs one (drop_run (sectors self.old.size) self.old.table.items.items) (C.disk self.old.cow) (told result self.new.table.items.items) (C.disk self.new.cow) }
+        ensures call { Runs one (drop_run (sectors self.old.size) (listed self.old.table)) (C.disk self.old.cow) (told result (listed self.new.table)) (C.disk self.new.cow) }
         ensures size { self.new.size ≡ self.old.size }
-        ensures table { OnErr result (self.new.table.items.items ≡ self.old.table.items.items) }
+        ensures table { OnErr result (listed self.new.table ≡ listed self.old.table) }
     {
         let n = self.table.len();
         let run = self.table.last_run(self.size);

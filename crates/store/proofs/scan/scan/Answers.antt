@@ -8,6 +8,7 @@ use Rattle.store.specs.Scanning.{scanning, parsed}
 use Rattle.store.specs.declared.fault.StoreFault.TheVariants.{TooMany}
 use Rattle.store.specs.Answers.{told_spot}
 use Rattle.store.proofs.Exits.{scan_passed_up, not_good}
+use Rattle.store.proofs.Calls.{taken}
 use Rattle.store.proofs.Scans.{got, so, none_judged, scanning_none, at_end, at_many, at_damage, at_next, at_last, closes}
 use Rattle.store.proofs.scan.scan.Goals as goal
 use Rattle.store.proofs.scan.scan.Goals.{else-areas-test, then-areas-test+in_ok-read_sectors+then-loop-entry-test+then-e-eq0}
@@ -46,10 +47,9 @@ loop-entry-preserved g c =
     let e = c.entry_at-e.result in
     let room : leb 2048 (length es) ≡ false = sym c.if-is_full.ensures in
     let small = c.is_damaged.ensures.small c.if-is_damaged.false in
-    let taken : c.push.result ≡ true = c.push.ensures.taken ∙ and_from _ _ (lt-ltb _ _ (leb-false 2048 (length es) room)) (and_from _ _ (lt-ltb _ _ small.0) (lt-ltb _ _ small.1)) in
-    let pushed : es ++ (e ∷ []) ≡ vec_items c.push.new.self.items = sym (c.push.ensures.list ∙ cond-true c.push.result _ _ taken) in
+    let pushed = taken es e c.push.ensures.list c.push.ensures.answer room small.0 small.1 in
     let on = at_next s c.areas.area c.read_sectors.new.buffer at.entry es c.entry_at-e.ensures (omega arith) c.if-e-eq0.false room (sym c.is_damaged.ensures.damaged ∙ c.if-is_damaged.false) in
-    (at.invariant.0, so s c.areas.area c.read_sectors.new.buffer at.invariant.1 (on ∙ ap (parsed s c.areas.area c.read_sectors.new.buffer (per_area (width s) - (at.entry + 1)) (at.entry + 1)) pushed))
+    (at.invariant.0, so s c.areas.area c.read_sectors.new.buffer at.invariant.1 (on ∙ ap (parsed s c.areas.area c.read_sectors.new.buffer (per_area (width s) - (at.entry + 1)) (at.entry + 1)) (sym pushed)))
 
 pub areas-preserved : goal.areas-preserved
 areas-preserved g c =

@@ -18,7 +18,7 @@ returns-in-Ok g c =
     let there = sym c.next_place.ensures ∙ c.in-Some.is in
     let none : is_some (lookup table c.args.old) ≡ false = sym (ap is_some c.lookup.ensures) ∙ sym c.is_some.ensures ∙ c.if-is_some.false in
     let few : length table ≤ 2048 = omega (arith, self.table.few, self.table.items.ok.0) in
-    let list = pushed s table c.args.old p count c.push.ensures.list c.push.ensures.taken few (omega arith) (div-le_self count (sectors self.size)) (g.met.C.Device.whole self.cow).few (roomy _ _ table p there) in
+    let list = pushed s table c.args.old p count c.push.ensures.list c.push.ensures.answer few (omega arith) (div-le_self count (sectors self.size)) (g.met.C.Device.whole self.cow).few (roomy _ _ table p there) in
     let plan = enter_on s table c.args.old p none (omega arith) there in
     record { call = ends_as (ap good list) (same plan ⨾ ran _ (entered s table c.args.old p list c.in-Ok.ensures)); size = refl; table = tt }
 
@@ -32,7 +32,7 @@ returns-in-Err g c =
     let there = sym c.next_place.ensures ∙ c.in-Some.is in
     let none : is_some (lookup table c.args.old) ≡ false = sym (ap is_some c.lookup.ensures) ∙ sym c.is_some.ensures ∙ c.if-is_some.false in
     let few : length table ≤ 2048 = omega (arith, self.table.few, self.table.items.ok.0) in
-    let list = pushed s table c.args.old p count c.push.ensures.list c.push.ensures.taken few (omega arith) (div-le_self count (sectors self.size)) (g.met.C.Device.whole self.cow).few (roomy _ _ table p there) in
+    let list = pushed s table c.args.old p count c.push.ensures.list c.push.ensures.answer few (omega arith) (div-le_self count (sectors self.size)) (g.met.C.Device.whole self.cow).few (roomy _ _ table p there) in
     let plan = enter_on s table c.args.old p none (omega arith) there in
     record {
       call = ends (same plan ⨾ ran _ (entered s table c.args.old p list c.in-Err.ensures));
