@@ -1,59 +1,56 @@
--- The largest new chunk and the last run, one exception further on.
-use Rattle.std.proofs.Common.{◌≡◌, ℕ, zero, suc, ◌+◌, ◌-◌, ◌^◌, ◌<◌, ◌≤◌, max, true, false, List, [], ◌∷◌, ◌++◌, length, get_or, take, drop, refl, ap, ◌∙◌, arith}
-use Rattle.std.proofs.lemmas.List.{drop_more, drop_all}
-use Rattle.std.proofs.lemmas.Bool.{cond-true, cond-false}
+-- The last run and the next place, as a table finds them.
+use Rattle.std.proofs.Common.{◌≡◌, ℕ, zero, suc, ◌+◌, ◌<◌, max, true, false, List, [], ◌∷◌, map, length, refl, ap, ◌∙◌, add-one, rules, subst, sym, arith, Some}
+use Rattle.std.specs.List.{fold, reduce, prefix_len, take_while}
+use Rattle.std.specs.declared.ops.Range.{Range}
+use Rattle.std.specs.declared.iter.Rev.{Rev}
+use Rattle.std.specs.Iterator.Adapters.{rev_source, rev_steps}
+use Rattle.std.proofs.iter.runs.Sources.{nat_range_steps_back}
+use Rattle.std.proofs.lemmas.List.Folds.{length-prefix_len}
+use Rattle.std.proofs.lemmas.Iterator.{YieldsList}
+use Rattle.std.proofs.lemmas.Iterator.Splits.{YieldsList-from_shown_while}
 use Rattle.layout.specs.declared.exception.Exception.{Exception}
-use Rattle.layout.specs.Entries.{nothing}
-use Rattle.exceptions.specs.Table.{Below, news, largest, past_area, next_place, linked, reach, last_run}
+use Rattle.layout.specs.Chunks.{is_data}
+use Rattle.exceptions.specs.Table.{news, largest, past_area, next_place, linked, reach, last_run}
 
-module _ (es : List Exception) (i best : ℕ) where
-  pub largest_more : (x : ℕ) → i < length es → x ≡ max best (get_or es i nothing).new → max x (largest (drop (i + 1) es)) ≡ max best (largest (drop i es))
-  largest_more x h is =
-      let e : largest (drop i es) ≡ max (get_or es i nothing).new (largest (drop (i + 1) es)) = ap largest (drop_more es i nothing h) in
-      omega arith
+-- the numbers below n, the last first, and the range that yields them
+abbrev pub downs : ℕ → List ℕ
+downs zero = []
+downs (suc n) = n ∷ downs n
 
-  pub largest_all : length es ≤ i → max best (largest (drop i es)) ≡ largest es → best ≡ largest es
-  largest_all h inv = let e : largest (drop i es) ≡ 0 = ap largest (drop_all i es h) in omega arith
+pub yields_downs : {s : Rev (Range ℕ)} (n : ℕ) → rev_source s ≡ record { start = 0; end = n } → YieldsList (rev_steps nat_range_steps_back) (λ x. x) s (downs n)
+yields_downs {s} n is = subst (λ (r : Range ℕ). YieldsList (rev_steps nat_range_steps_back) (λ x. x) s (downs r.end)) is
+    (YieldsList-from_shown_while (rev_steps nat_range_steps_back) (λ x. x) (λ r. downs (rev_source r).end) (λ r. (rev_source r).start ≡ 0)
+    (λ r t z h. let e : (rev_source r).end ≡ 0 = omega arith in ap (λ k. length (downs k)) e)
+    (λ r x t z h. (h.0 ∙ z, ap downs (h.1.2 ∙ add-one _) ∙ ap (λ k. k ∷ downs (rev_source t).end) (sym h.1.1)))
+    s (ap (λ (r : Range ℕ). r.start) is))
 
-module _ (c : ℕ) (es : List Exception) where
-  pub reach_on : (n : ℕ) → 0 < n → linked c es (n - 1) ≡ true → reach c es n ≡ suc (reach c es (n - 1))
-  reach_on n h b = let e : n ≡ suc (n - 1) = omega arith in ap (reach c es) e ∙ cond-true (linked c es (n - 1)) _ _ b
+-- the last run is the last exception, and so many before it as are linked from there on
+reach_is : (c : ℕ) (es : List Exception) (n : ℕ) → prefix_len (linked c es) (downs n) ≡ reach c es n
+reach_is c es zero = refl
+reach_is c es (suc n) = grind (arith, reach_is c es n)
 
-  pub reach_over : (n : ℕ) → 0 < n → linked c es (n - 1) ≡ false → reach c es n ≡ 0
-  reach_over n h b = let e : n ≡ suc (n - 1) = omega arith in ap (reach c es) e ∙ cond-false (linked c es (n - 1)) _ _ b
+pub last_run_is : (c : ℕ) (es : List Exception) (n k : ℕ) → length es ≡ n + 1 → k ≡ length (take_while (linked c es) (downs n)) → k + 1 ≡ last_run c es
+last_run_is c [] n k long is = absurd (omega arith)
+last_run_is c (x ∷ xs) n k long is =
+    let few : n ≡ length xs = omega arith in
+    omega (arith, length-prefix_len (linked c (x ∷ xs)) (downs n), reach_is c (x ∷ xs) n, ap (reach c (x ∷ xs)) few)
 
-  pub reach_start : (n : ℕ) → n ≤ 0 → reach c es n ≡ 0
-  reach_start n h = let e : n ≡ 0 = omega arith in ap (reach c es) e
+-- the largest number, from the first on and from the last on
+largest_from : (k : ℕ) (es : List Exception) → fold max k (map news es) ≡ max k (largest es)
+largest_from k [] = omega arith
+largest_from k (x ∷ xs) = omega (arith, largest_from (max k x.new) xs)
 
-pub run_is : (c : ℕ) (es : List Exception) → 0 < length es → last_run c es ≡ suc (reach c es (length es - 1))
-run_is c [] h = absurd (omega arith)
-run_is c (e ∷ es) h = let l : length es ≡ suc (length es) - 1 = omega arith in ap (λ n. suc (reach c (e ∷ es) n)) l
+-- where the largest is found
+pub next_place_is : (c : ℕ) (es : List Exception) (k : ℕ) → Some k ≡ reduce max (map news es) → past_area c (k + 1) ≡ next_place c es
+next_place_is c [] k is = cc
+next_place_is c (x ∷ xs) k is =
+    let e : k ≡ max x.new (largest xs) = search (rules, largest_from x.new xs) in
+    ap (λ n. past_area c (n + 1)) e
 
--- NUMBERS OF 32 BITS
+-- the chunk after it is for data, or an area
+module _ (c k : ℕ) where
+  pub data_next : is_data c (k + 1) ≡ true → k + 1 ≡ past_area c (k + 1)
+  data_next h = grind arith
 
-pub largest_below : (es : List Exception) → Below news es → largest es < 2 ^ 32
-largest_below [] b = omega arith
-largest_below (x ∷ xs) b = let h = largest_below xs (λ i. b (suc i)) in let k = b 0 in omega arith
-
-module _ (number : Exception → ℕ) where
-  none_below : (es : List Exception) → Below number es → number nothing < 2 ^ 32
-  none_below [] b = b 0
-  none_below (x ∷ xs) b = none_below xs (λ i. b (suc i))
-
-  pub push_below : (es : List Exception) (x : Exception) → Below number es → number x < 2 ^ 32 → Below number (es ++ x ∷ [])
-  push_below [] x b h zero = h
-  push_below [] x b h (suc i) = b 0
-  push_below (y ∷ ys) x b h zero = b 0
-  push_below (y ∷ ys) x b h (suc i) = push_below ys x (λ k. b (suc k)) h i
-
-  pub take_below : (n : ℕ) (es : List Exception) → Below number es → Below number (take n es)
-  take_below zero es b i = none_below es b
-  take_below (suc n) [] b i = b 0
-  take_below (suc n) (y ∷ ys) b zero = b 0
-  take_below (suc n) (y ∷ ys) b (suc i) = take_below n ys (λ k. b (suc k)) i
-
--- NEXT PLACE
-
-pub next_place_is : (c : ℕ) (es : List Exception) → 0 < length es → next_place c es ≡ past_area c (largest es + 1)
-next_place_is c [] h = absurd (omega arith)
-next_place_is c (x ∷ xs) h = refl
+  pub area_next : 0 < c → is_data c (k + 1) ≡ false → k + 1 + 1 ≡ past_area c (k + 1)
+  area_next h e = grind arith

@@ -1,98 +1,95 @@
-// What is asked of a list of exceptions.
-ghost use Rattle.std.specs.Prelude.{◌≡◌, ◌+◌, ◌*◌, ◌^◌, ◌<◌, ◌≤◌, true, length};
+// What a table says of its list: the next place, the last run, and the figures for status.
+ghost use Rattle.std.specs.Prelude.{◌≡◌, ◌+◌, ◌^◌, ◌<◌, ◌≤◌, map, max, length, IfSome};
+ghost use Rattle.std.specs.List.{reduce};
 ghost use Rattle.layout.specs.Chunks.{sectors};
-ghost use Rattle.exceptions.specs.Table.{Below, news, largest as largest_new, past_area, next_place, has_room, follows as follows_on, linked as are_linked, last_run, metadata as metadata_sectors};
+ghost use Rattle.exceptions.specs.Table.{entries_at_most, news, next_place, has_room, room, follows, linked, last_run, allocated, metadata};
+ghost use Rattle.exceptions.specs.Listed.{listed};
 
+use crate::table::ExceptionTable;
 use layout::{ChunkSize, Exception};
 
-// The largest new chunk, or 0 where there is none.
-fn largest(es: &[Exception]) -> u64
-    ensures { result ≡ largest_new es.now }
-{
-    let mut best = 0;
-    for e in es {
-        best = best.max(e.new);
-    }
-    best
-}
-
-// The chunk `k`, or the next one where `k` is an area.
-fn past_area(k: u64, size: ChunkSize) -> u64
-    requires { k ≤ 2 ^ 32 }
-    ensures past { result ≡ past_area (sectors size) k }
-    ensures small { result ≤ k + 1 }
-{
-    if k % (u64::from(size.entries_per_area()) + 1) == 1 {
-        k + 1
-    } else {
-        k
-    }
-}
-
-// The next place for a copy, be it on the device or not.
-pub fn place_after(es: &[Exception], size: ChunkSize) -> u64
-    requires { Below news es.now }
-    ensures place { result ≡ next_place (sectors size) es.now }
-    ensures small { result ≤ 2 ^ 32 + 1 }
-{
-    if es.is_empty() {
-        return 2;
-    }
-    past_area(largest(es) + 1, size)
-}
-
-// Whether exception number `n` may be entered at a place, on a device of so many chunks.
-pub fn may_enter(n: usize, place: u64, size: ChunkSize, chunks: u64, limit: usize) -> bool
-    requires { n ≤ 2048 }
-    ensures { result ≡ has_room limit (sectors size) chunks n place }
-{
-    let per_area = size.entries_per_area() as usize;
-    let fills = n % per_area == per_area - 1;
-    let next_area = size.area_chunk((n / per_area + 1) as u32);
-    place < chunks && !(fills && next_area >= chunks) && n != limit
-}
-
 // Whether the second comes right after the first, in both its numbers.
-fn follows(a: Exception, b: Exception) -> bool
-    ensures { result ≡ follows_on a b }
+pub fn follows(a: Exception, b: Exception) -> bool
+    ensures { result ≡ follows a b }
 {
-    a.old < b.old && b.old - a.old == 1 && a.new < b.new && b.new - a.new == 1
+    a.old.checked_add(1) == Some(b.old) && a.new.checked_add(1) == Some(b.new)
 }
 
-// Whether the exceptions at `n` and `n + 1` are in one run.
-fn linked(es: &[Exception], n: usize, size: ChunkSize) -> bool
-    requires { n + 1 < length es.now }
-    ensures { result ≡ are_linked (sectors size) es.now n }
-{
-    let per_area = size.entries_per_area() as usize;
-    n / per_area == (n + 1) / per_area && follows(es[n], es[n + 1])
-}
+impl ExceptionTable {
+    // The largest new chunk, if there is any.
+    fn largest(&self) -> Option<u64>
+        ensures largest { result ≡ reduce max (map news (listed self.now)) }
+        ensures small { IfSome result (λ k. k < 2 ^ 32) }
+    {
+        self.as_slice().iter().map(|e| e.new).max()
+    }
 
-// How many exceptions the last run has.
-pub fn run_length(es: &[Exception], size: ChunkSize) -> usize
-    ensures run { result ≡ last_run (sectors size) es.now }
-    ensures within { result ≤ length es.now }
-    ensures some { 0 < length es.now → 0 < result }
-{
-    let n = es.len();
-    if n == 0 {
-        return 0;
+    // The place after the largest new chunk, be it on the device or not.
+    fn place(&self, size: ChunkSize) -> u64
+        ensures place { result ≡ next_place (sectors size) (listed self.now) }
+        ensures small { result ≤ 2 ^ 32 + 1 }
+    {
+        let Some(largest) = self.largest() else {
+            return 2;
+        };
+        let next = largest + 1;
+        if size.is_data(next) { next } else { next + 1 }
     }
-    let mut first = n - 1;
-    while first > 0 && linked(es, first - 1, size) {
-        first -= 1;
-    }
-    n - first
-}
 
-// The sectors of the header and of the areas that `n` exceptions take.
-pub fn metadata_sectors(n: usize, size: ChunkSize) -> u64
-    requires { n ≤ 2048 }
-    ensures { result ≡ metadata_sectors (sectors size) n }
-{
-    let c = u64::from(size.sectors());
-    if n == 0 {
-        return 2 * c;
+    // Whether one more may be entered at a place, on a device of so many chunks.
+    fn may_enter(&self, place: u64, size: ChunkSize, chunks: u64) -> bool
+        ensures { result ≡ has_room entries_at_most (sectors size) chunks (length (listed self.now)) place }
+    {
+        let n = self.len() as u32;
+        let per_area = size.entries_per_area();
+        let fills = n % per_area == per_area - 1;
+        let next_area = size.area_chunk(n / per_area + 1);
+        place < chunks && !(fills && next_area >= chunks) && !self.is_full()
     }
-    (2 + (n as u64 - 1) / u64::from(size.entries_per_area())) * c
+
+    // The next place on a device of so many chunks, or nothing where an exception has no room.
+    pub fn next_place(&self, size: ChunkSize, chunks: u64) -> Option<u64>
+        ensures { result ≡ room entries_at_most (sectors size) chunks (listed self.now) }
+    {
+        let place = self.place(size);
+        self.may_enter(place, size, chunks).then_some(place)
+    }
+
+    // Whether the exceptions at `n` and `n + 1` are in one run.
+    fn linked(&self, n: usize, size: ChunkSize) -> bool
+        requires { n + 1 < length (listed self.now) }
+        ensures { result ≡ linked (sectors size) (listed self.now) n }
+    {
+        let per_area = size.entries_per_area() as usize;
+        let es = self.as_slice();
+        n / per_area == (n + 1) / per_area && follows(es[n], es[n + 1])
+    }
+
+    // How many exceptions the last run has.
+    pub fn last_run(&self, size: ChunkSize) -> usize
+        ensures run { result ≡ last_run (sectors size) (listed self.now) }
+        ensures within { result ≤ length (listed self.now) }
+        ensures some { 0 < length (listed self.now) → 0 < result }
+    {
+        let Some(last) = self.len().checked_sub(1) else {
+            return 0;
+        };
+        let before = (0..last).rev().take_while(|&n| self.linked(n, size));
+        before.count() + 1
+    }
+
+    // Sectors up to the next place, even past the device.
+    pub fn allocated(&self, size: ChunkSize) -> u64
+        ensures { result ≡ allocated (sectors size) (listed self.now) }
+    {
+        self.place(size) * u64::from(size.sectors())
+    }
+
+    // Sectors of the header and of the areas, of which there is always one.
+    pub fn metadata(&self, size: ChunkSize) -> u64
+        ensures { result ≡ metadata (sectors size) (length (listed self.now)) }
+    {
+        let areas = (self.len() as u32).div_ceil(size.entries_per_area()).max(1);
+        u64::from((1 + areas) * size.sectors())
+    }
 }

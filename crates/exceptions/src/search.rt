@@ -1,6 +1,6 @@
 // One search by key for every kind of keyed record.
 ghost use Rattle.std.specs.Prelude.{◌≡◌, ℕ, ◌<◌, length, IfSome};
-ghost use Rattle.exceptions.specs.Search.{first as first_place};
+ghost use Rattle.exceptions.specs.Search.{first};
 
 // A record that is found by a number; `K` tells apart the numbers that one record may be found by.
 pub trait Keyed<K> {
@@ -12,16 +12,11 @@ pub trait Keyed<K> {
 
 // The place of the first record with the key, or nothing.
 pub fn find<K, R: Keyed<K>>(records: &[R], key: u64) -> Option<usize>
-    ensures first { result ≡ first_place R.keyed key records.now }
+    ensures first { result ≡ first R.keyed key records.now }
     ensures within { IfSome result (λ i. i < length records.now) }
 {
     if records.is_empty() {
         return None;
     }
-    for (i, record) in records.iter().enumerate() {
-        if record.key() == key {
-            return Some(i);
-        }
-    }
-    None
+    records.iter().position(|record| record.key() == key)
 }

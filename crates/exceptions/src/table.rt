@@ -1,12 +1,10 @@
 // The list of exceptions in memory.
-ghost use Rattle.std.specs.Prelude.{◌≡◌, ◌<◌, ◌≤◌, [], ◌∷◌, ◌++◌, length, take, is_ok, IfOk, if◌then◌else◌, vec_len, vec_capacity, nat_le};
-ghost use Rattle.layout.specs.Chunks.{sectors};
-ghost use Rattle.exceptions.specs.Table.{Below, olds, news, entries_at_most, lookup, has_new, next_place, room, last_run, allocated, metadata};
+ghost use Rattle.std.specs.Prelude.{◌≡◌, ◌≤◌, [], ◌∷◌, ◌++◌, length, take, is_ok, IfOk, if◌then◌else◌, vec_len, vec_capacity, nat_le};
+ghost use Rattle.exceptions.specs.Table.{Below, olds, news, entries_at_most, lookup, has_new};
 
 use crate::fault::TableFault;
-use crate::figures::{may_enter, metadata_sectors, place_after, run_length};
 use crate::search::{Keyed, find};
-use layout::{ChunkSize, Exception};
+use layout::Exception;
 use std::alloc::{AllocError, Global};
 
 const LIMIT: usize = 2048;
@@ -79,7 +77,7 @@ impl ExceptionTable {
         ensures answer { result ≡ push_test (listed self.old) e }
         ensures list { listed self.new ≡ (if is_ok result then listed self.old ++ (e ∷ []) else listed self.old) }
     {
-        if self.items.len() >= LIMIT {
+        if self.is_full() {
             return Err(TableFault::Full);
         }
         if e.old.max(e.new) > u64::from(u32::MAX) {
@@ -106,10 +104,8 @@ impl ExceptionTable {
     pub fn lookup(&self, old: u64) -> Option<u64>
         ensures { result ≡ lookup (listed self.now) old }
     {
-        match find::<Old, Exception>(&self.items, old) {
-            Some(i) => Some(self.items[i].new),
-            None => None,
-        }
+        let i = find::<Old, Exception>(&self.items, old)?;
+        Some(self.items[i].new)
     }
 
     // Whether a new chunk is taken.
@@ -117,40 +113,5 @@ impl ExceptionTable {
         ensures { result ≡ has_new (listed self.now) new }
     {
         find::<New, Exception>(&self.items, new).is_some()
-    }
-
-    // The next place on a device of so many chunks, or nothing where an exception has no room.
-    pub fn next_place(&self, size: ChunkSize, chunks: u64) -> Option<u64>
-        ensures { result ≡ room entries_at_most (sectors size) chunks (listed self.now) }
-    {
-        let place = place_after(&self.items, size);
-        if may_enter(self.items.len(), place, size, chunks, LIMIT) {
-            Some(place)
-        } else {
-            None
-        }
-    }
-
-    // How many exceptions the last run has.
-    pub fn last_run(&self, size: ChunkSize) -> usize
-        ensures run { result ≡ last_run (sectors size) (listed self.now) }
-        ensures within { result ≤ length (listed self.now) }
-        ensures some { 0 < length (listed self.now) → 0 < result }
-    {
-        run_length(&self.items, size)
-    }
-
-    // Sectors up to the next place, even past the device.
-    pub fn allocated(&self, size: ChunkSize) -> u64
-        ensures { result ≡ allocated (sectors size) (listed self.now) }
-    {
-        place_after(&self.items, size) * u64::from(size.sectors())
-    }
-
-    // Sectors of the header and of the areas.
-    pub fn metadata(&self, size: ChunkSize) -> u64
-        ensures { result ≡ metadata (sectors size) (length (listed self.now)) }
-    {
-        metadata_sectors(self.items.len(), size)
     }
 }
