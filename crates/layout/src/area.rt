@@ -4,7 +4,7 @@ ghost use Rattle.std.specs.List.{flat_map};
 ghost use Rattle.layout.specs.Entries.{entry, nth_entry, pic, ReadBack};
 
 use crate::exception::Exception;
-use crate::number::{eight_bytes, number_at};
+use crate::number::field;
 
 const ENTRY: usize = 16;
 
@@ -14,8 +14,8 @@ fn encode(x: Exception) -> [u8; 16]
     ensures { result ≡ entry x }
 {
     let mut out = [0u8; 16];
-    out[..8].copy_from_slice(&eight_bytes(x.old));
-    out[8..].copy_from_slice(&eight_bytes(x.new));
+    out[..8].copy_from_slice(&x.old.to_le_bytes());
+    out[8..].copy_from_slice(&x.new.to_le_bytes());
     out
 }
 
@@ -28,8 +28,8 @@ pub fn entry_at(bytes: &[u8], place: u32) -> Exception
         return Exception { old: 0, new: 0 };
     }
     Exception {
-        old: number_at(bytes, at),
-        new: number_at(bytes, at + 8),
+        old: u64::from_le_bytes(field(bytes, at)),
+        new: u64::from_le_bytes(field(bytes, at + 8)),
     }
 }
 

@@ -4,7 +4,7 @@ ghost use Rattle.layout.specs.Chunks.{sectors};
 ghost use Rattle.layout.specs.Headers.{flag, header as header_bytes, header_read, told, HeaderBack};
 
 use crate::chunk::ChunkSize;
-use crate::number::{four_bytes, word_at};
+use crate::number::field;
 
 const MAGIC: &[u8; 4] = b"SnAp";
 
@@ -39,9 +39,9 @@ pub fn encode_header(header: Header) -> [u8; 512]
 {
     let mut out = [0u8; 512];
     out[..4].copy_from_slice(MAGIC);
-    out[4..8].copy_from_slice(&four_bytes(flag_of(header.valid)));
-    out[8..12].copy_from_slice(&four_bytes(VERSION));
-    out[12..16].copy_from_slice(&four_bytes(header.size.sectors()));
+    out[4..8].copy_from_slice(&flag_of(header.valid).to_le_bytes());
+    out[8..12].copy_from_slice(&VERSION.to_le_bytes());
+    out[12..16].copy_from_slice(&header.size.sectors().to_le_bytes());
     out
 }
 
@@ -52,11 +52,11 @@ pub fn decode_header(sector: &[u8; 512]) -> Result<Header, HeaderFault>
     if !sector.starts_with(MAGIC) {
         return Err(HeaderFault::Magic);
     }
-    if word_at(sector, 8) != VERSION {
+    if u32::from_le_bytes(field(sector, 8)) != VERSION {
         return Err(HeaderFault::Version);
     }
-    let valid = word_at(sector, 4);
-    match ChunkSize::from_sectors(word_at(sector, 12)) {
+    let valid = u32::from_le_bytes(field(sector, 4));
+    match ChunkSize::from_sectors(u32::from_le_bytes(field(sector, 12))) {
         Some(size) if valid <= 1 => Ok(Header {
             valid: valid == 1,
             size,
