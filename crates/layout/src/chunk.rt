@@ -1,5 +1,6 @@
 // Chunks of sectors, and which of them are areas or hold data.
 ghost use Rattle.std.specs.Prelude.{◌≡◌};
+ghost use Rattle.std.specs.Option.{ok_or};
 ghost use Rattle.layout.specs.Chunks.{sectors, chunk_size, per_area, area_chunk, area_start, is_data};
 
 // The sectors of a chunk.
@@ -12,20 +13,28 @@ pub enum ChunkSize {
     Sixteen,
 }
 
-impl ChunkSize {
-    pub fn from_sectors(n: u32) -> Option<ChunkSize>
-        ensures { result ≡ chunk_size n }
-    {
+// A number of sectors that no chunk has.
+#[derive(Clone, Copy, Debug, PartialEq, Eq)]
+pub struct NoChunkSize(pub u32);
+
+impl TryFrom<u32> for ChunkSize {
+    type Error = NoChunkSize;
+
+    ghost try_from_gives = { λ n r. r ≡ ok_or (chunk_size n) (record { 0 = n }) };
+
+    fn try_from(n: u32) -> Result<Self, NoChunkSize> {
         match n {
-            1 => Some(ChunkSize::One),
-            2 => Some(ChunkSize::Two),
-            4 => Some(ChunkSize::Four),
-            8 => Some(ChunkSize::Eight),
-            16 => Some(ChunkSize::Sixteen),
-            _ => None,
+            1 => Ok(ChunkSize::One),
+            2 => Ok(ChunkSize::Two),
+            4 => Ok(ChunkSize::Four),
+            8 => Ok(ChunkSize::Eight),
+            16 => Ok(ChunkSize::Sixteen),
+            _ => Err(NoChunkSize(n)),
         }
     }
+}
 
+impl ChunkSize {
     pub fn sectors(self) -> u32
         ensures { result ≡ sectors self }
     {

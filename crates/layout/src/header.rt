@@ -1,7 +1,9 @@
 // The first sector of the COW device.
-ghost use Rattle.std.specs.Prelude.{◌≡◌};
+ghost use Rattle.std.specs.Prelude.{◌≡◌, ◌+◌, ◌≤◌};
+ghost use Rattle.std.specs.List.{between};
 ghost use Rattle.layout.specs.Chunks.{sectors};
-ghost use Rattle.layout.specs.Headers.{flag, header as header_bytes, header_read, told, HeaderBack};
+ghost use Rattle.layout.specs.Numbers.{value};
+ghost use Rattle.layout.specs.Headers.{header as header_bytes, header_read, told, HeaderBack};
 
 use crate::chunk::ChunkSize;
 use crate::number::field;
@@ -11,14 +13,14 @@ const MAGIC: &[u8; 4] = b"SnAp";
 const VERSION: u32 = 1;
 
 // What a header says after its magic and its version.
-#[derive(Clone, Copy)]
+#[derive(Clone, Copy, Debug, PartialEq, Eq)]
 pub struct Header {
     pub valid: bool,
     pub size: ChunkSize,
 }
 
 // Why bytes are no header.
-#[derive(Clone, Copy)]
+#[derive(Clone, Copy, Debug, PartialEq, Eq)]
 pub enum HeaderFault {
     // they do not begin with the magic
     Magic,
@@ -28,21 +30,23 @@ pub enum HeaderFault {
     Field,
 }
 
-fn flag_of(valid: bool) -> u32
-    ensures { result ≡ flag valid }
-{
-    if valid { 1 } else { 0 }
-}
-
 pub fn encode_header(header: Header) -> [u8; 512]
     ensures { result ≡ header_bytes header.valid (sectors header.size) }
 {
     let mut out = [0u8; 512];
     out[..4].copy_from_slice(MAGIC);
-    out[4..8].copy_from_slice(&flag_of(header.valid).to_le_bytes());
+    out[4..8].copy_from_slice(&u32::from(header.valid).to_le_bytes());
     out[8..12].copy_from_slice(&VERSION.to_le_bytes());
     out[12..16].copy_from_slice(&header.size.sectors().to_le_bytes());
     out
+}
+
+// The 32-bit number in four bytes from `at` on.
+fn word(sector: &[u8; 512], at: usize) -> u32
+    requires { at + 4 ≤ 512 }
+    ensures { result ≡ value (between at (at + 4) sector.now) }
+{
+    u32::from_le_bytes(field(sector, at))
 }
 
 // The tests in their order: magic, version, the sectors of a chunk and valid.
@@ -52,17 +56,16 @@ pub fn decode_header(sector: &[u8; 512]) -> Result<Header, HeaderFault>
     if !sector.starts_with(MAGIC) {
         return Err(HeaderFault::Magic);
     }
-    if u32::from_le_bytes(field(sector, 8)) != VERSION {
+    if word(sector, 8) != VERSION {
         return Err(HeaderFault::Version);
     }
-    let valid = u32::from_le_bytes(field(sector, 4));
-    match ChunkSize::from_sectors(u32::from_le_bytes(field(sector, 12))) {
-        Some(size) if valid <= 1 => Ok(Header {
-            valid: valid == 1,
-            size,
-        }),
-        _ => Err(HeaderFault::Field),
-    }
+    let size = ChunkSize::try_from(word(sector, 12)).map_err(|_| HeaderFault::Field)?;
+    let valid = match word(sector, 4) {
+        0 => false,
+        1 => true,
+        _ => return Err(HeaderFault::Field),
+    };
+    Ok(Header { valid, size })
 }
 
 // A header that was encoded is decoded to what it was made of.

@@ -10,6 +10,6 @@ mod number;
 mod tests;
 
 pub use area::{entries_are_read_back, entry_at, picture};
-pub use chunk::ChunkSize;
+pub use chunk::{ChunkSize, NoChunkSize};
 pub use exception::Exception;
 pub use header::{Header, HeaderFault, decode_header, encode_header, headers_are_read_back};
