@@ -3,6 +3,7 @@ use Rattle.std.proofs.Common.{◌≡◌, ℕ, zero, suc, ◌+◌, ◌-◌, ◌*�
 use lib.Seq.{drop-append-add}
 use Rattle.std.specs.List.{between, flat_map, AllByRecursion}
 use Rattle.std.proofs.lemmas.List.{drop_at, drop_more, length-take, length-take-le, length-append, length-replicate, drop-replicate, take-replicate, replicate-append-replicate, get_or-take, get_or-drop}
+use Rattle.std.proofs.lemmas.List.Concat.{flat_map-append}
 use Rattle.std.proofs.ByRecursion.{All-get_or, All-take, All-drop}
 use Rattle.std.proofs.lemmas.Nat.{div_below}
 use Rattle.layout.specs.declared.exception.Exception.{Exception}
@@ -12,7 +13,7 @@ use Rattle.layout.specs.declared.chunk.ChunkSize.TheVariants.{One, Two, Four, Ei
 use Rattle.layout.specs.Headers.{HeaderBack}
 use Rattle.layout.proofs.Made.{length_entries}
 
-pub value_le : (w n : ℕ) → n < 256 ^ w → value (le w n) ≡ n
+value_le : (w n : ℕ) → n < 256 ^ w → value (le w n) ≡ n
 value_le zero n h = omega arith
 value_le (suc w) n h = let less : n / 256 < 256 ^ w = div_below n 256 (256 ^ w) (omega arith) (rw pow-suc at h) in let back = value_le w (n / 256) less in omega arith
 
@@ -32,7 +33,7 @@ part_at xs ys at k n h =
 front_at : (xs ys : List ℕ) (at n : ℕ) → length xs ≡ at → between at (at + n) (xs ++ ys) ≡ take n ys
 front_at xs ys at n h = let size : at + n - at ≡ n = omega arith in ap₂ (λ m l. take m l) size (drop_at xs ys at h)
 
-pub entry_here : (xs zs : List ℕ) (e : Exception) (at : ℕ) → length xs ≡ at → Fits e → entry_from (xs ++ (entry e ++ zs)) at ≡ e
+entry_here : (xs zs : List ℕ) (e : Exception) (at : ℕ) → length xs ≡ at → Fits e → entry_from (xs ++ (entry e ++ zs)) at ≡ e
 entry_here xs zs e at h fit =
     let old : value (between at (at + 8) (xs ++ (entry e ++ zs))) ≡ e.old = ap value (front_at xs (entry e ++ zs) at 8 h) ∙ value_le 8 e.old fit.old in
     let new : value (between (at + 8) (at + 8 + 8) (xs ++ (entry e ++ zs))) ≡ e.new = ap value (part_at xs (entry e ++ zs) at 8 8 h) ∙ value_le 8 e.new fit.new in
@@ -45,15 +46,11 @@ entry_past xs at n h room =
     ap value (part_at xs (replicate n 0) at 8 8 h ∙ ap (take 8) (drop-replicate 8 n 0) ∙ take-replicate 8 (n - 8) 0 (omega arith)) in
     λ i. record { old = old i; new = new i }
 
-joined_append : {X Y : Type 0} (f : X → List Y) (xs ys : List X) → flat_map f (xs ++ ys) ≡ flat_map f xs ++ flat_map f ys
-joined_append f [] ys = refl
-joined_append f (x ∷ xs) ys = ap (λ l. f x ++ l) (joined_append f xs ys) ∙ sym (append_assoc (f x) (flat_map f xs) (flat_map f ys))
-
 -- the entries before the one at k, that one, and what follows
 split_at : (part : List Exception) (k : ℕ) (d : Exception) (zs : List ℕ) → k < length part → flat_map entry part ++ zs ≡ flat_map entry (take k part) ++ (entry (get_or part k d) ++ (flat_map entry (drop (k + 1) part) ++ zs))
 split_at part k d zs h =
     let all : part ≡ take k part ++ (get_or part k d ∷ drop (k + 1) part) = sym (ap (λ l. take k part ++ l) (sym (drop_more part k d h)) ∙ take-append-drop k part) in
-    ap (λ l. l ++ zs) (ap (flat_map entry) all ∙ joined_append entry (take k part) (get_or part k d ∷ drop (k + 1) part)) ∙ append_assoc (flat_map entry (take k part)) _ zs ∙ ap (λ l. flat_map entry (take k part) ++ l) (append_assoc (entry (get_or part k d)) (flat_map entry (drop (k + 1) part)) zs)
+    ap (λ l. l ++ zs) (ap (flat_map entry) all ∙ flat_map-append entry (take k part) (get_or part k d ∷ drop (k + 1) part)) ∙ append_assoc (flat_map entry (take k part)) _ zs ∙ ap (λ l. flat_map entry (take k part) ++ l) (append_assoc (entry (get_or part k d)) (flat_map entry (drop (k + 1) part)) zs)
 
 long : (part : List Exception) (k : ℕ) → k ≤ length part → length (flat_map entry (take k part)) ≡ 16 * k
 long part k h = length_entries (take k part) ∙ ap (λ n. 16 * n) (length-take-le k part h)

@@ -7,6 +7,7 @@ ghost use Rattle.layout.specs.Headers.{header as header_bytes, header_read, told
 
 use crate::chunk::ChunkSize;
 use crate::number::field;
+use device::SECTOR;
 
 const MAGIC: &[u8; 4] = b"SnAp";
 
@@ -30,10 +31,10 @@ pub enum HeaderFault {
     Field,
 }
 
-pub fn encode_header(header: Header) -> [u8; 512]
+pub fn encode_header(header: Header) -> [u8; SECTOR]
     ensures { result ≡ header_bytes header.valid (sectors header.size) }
 {
-    let mut out = [0u8; 512];
+    let mut out = [0u8; SECTOR];
     out[..4].copy_from_slice(MAGIC);
     out[4..8].copy_from_slice(&u32::from(header.valid).to_le_bytes());
     out[8..12].copy_from_slice(&VERSION.to_le_bytes());
@@ -42,15 +43,15 @@ pub fn encode_header(header: Header) -> [u8; 512]
 }
 
 // The 32-bit number in four bytes from `at` on.
-fn word(sector: &[u8; 512], at: usize) -> u32
-    requires { at + 4 ≤ 512 }
+fn word(sector: &[u8; SECTOR], at: usize) -> u32
+    requires { at + 4 ≤ SECTOR }
     ensures { result ≡ value (between at (at + 4) sector.now) }
 {
     u32::from_le_bytes(field(sector, at))
 }
 
 // The tests in their order: magic, version, the sectors of a chunk and valid.
-pub fn decode_header(sector: &[u8; 512]) -> Result<Header, HeaderFault>
+pub fn decode_header(sector: &[u8; SECTOR]) -> Result<Header, HeaderFault>
     ensures { told result ≡ header_read sector.now }
 {
     if !sector.starts_with(MAGIC) {

@@ -1,26 +1,27 @@
 // What the layout's functions answer, on examples.
 use crate::{
-    ChunkSize, Exception, Header, HeaderFault, decode_header, encode_header, entry_at, picture,
+    ChunkSize, Exception, Header, HeaderFault, NoChunkSize, decode_header, encode_header, entry_at,
+    picture,
 };
-use std::test::Fail;
 
 #[test]
-fn headers_go_round(rt: HostRuntime) -> Result<(), Fail> {
-    let sector = encode_header(Header {
+fn sizes_of_chunks(rt: HostRuntime) {
+    assert_eq!(rt; ChunkSize::try_from(16), Ok(ChunkSize::Sixteen));
+    assert_eq!(rt; ChunkSize::try_from(3), Err(NoChunkSize(3)));
+}
+
+#[test]
+fn headers_go_round(rt: HostRuntime) {
+    let header = Header {
         valid: true,
         size: ChunkSize::Eight,
-    });
+    };
+    let sector = encode_header(header);
     assert_eq!(rt; sector[0], 0x53);
     assert_eq!(rt; sector[12], 8);
     assert_eq!(rt; sector[511], 0);
-    match decode_header(&sector) {
-        Ok(header) => {
-            assert!(rt; header.valid);
-            assert_eq!(rt; header.size.sectors(), 8);
-            Ok(())
-        }
-        Err(_) => Err(Fail::new("refused")),
-    }
+    assert_eq!(rt; decode_header(&sector), Ok(header));
+    assert_eq!(rt; header.size.sectors(), 8);
 }
 
 // Magic is tested before version, and version before the other fields.
@@ -31,14 +32,14 @@ fn header_faults(rt: HostRuntime) {
         size: ChunkSize::One,
     });
     sector[4] = 2;
-    assert!(rt; matches!(decode_header(&sector), Err(HeaderFault::Field)));
+    assert_eq!(rt; decode_header(&sector), Err(HeaderFault::Field));
     sector[4] = 0;
     sector[12] = 3;
-    assert!(rt; matches!(decode_header(&sector), Err(HeaderFault::Field)));
+    assert_eq!(rt; decode_header(&sector), Err(HeaderFault::Field));
     sector[8] = 2;
-    assert!(rt; matches!(decode_header(&sector), Err(HeaderFault::Version)));
+    assert_eq!(rt; decode_header(&sector), Err(HeaderFault::Version));
     sector[3] = 0;
-    assert!(rt; matches!(decode_header(&sector), Err(HeaderFault::Magic)));
+    assert_eq!(rt; decode_header(&sector), Err(HeaderFault::Magic));
 }
 
 // Entries of a sector, the zeros after them, and past its end.
