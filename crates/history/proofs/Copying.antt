@@ -11,8 +11,7 @@ use Rattle.layout.specs.Chunks.{sectors, per_area, is_data, in_copy}
 use Rattle.exceptions.specs.Table.{entries_at_most, has_old, lookup, room}
 use Rattle.recovery.specs.Breaks.{more}
 use Rattle.recovery.specs.Readings.{Image, image, found}
-use Rattle.recovery.specs.Standing.{Within, Listed, Stands}
-use Rattle.recovery.specs.Lying.{Lies}
+use Rattle.recovery.specs.Standing.{Within, Listed, Stands, Lies}
 use Rattle.recovery.proofs.Finds.{sectors_within}
 use Rattle.history.specs.Steps.{sizes, Memory}
 use Rattle.history.specs.Machine.{Plain, has_chunk, chunk_of, place_of, diverged_at, table_of, can_diverge, with_diverged, diverge, reads_at}

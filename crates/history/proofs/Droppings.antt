@@ -12,8 +12,7 @@ use Rattle.store.specs.Refusals.{StoreRefusal, up}
 use Rattle.store.specs.Steps.{finished, flushing, unwinding, dropping, drop_run}
 use Rattle.recovery.specs.Data.{DataKept}
 use Rattle.recovery.specs.Readings.{image}
-use Rattle.recovery.specs.Standing.{Listed, Stands}
-use Rattle.recovery.specs.Lying.{Lies}
+use Rattle.recovery.specs.Standing.{Listed, Stands, Lies}
 use Rattle.recovery.proofs.Calls.{Did, went, broke, did, drop_stands, drop_lies}
 use Rattle.recovery.proofs.Datas.{calls_keep_data}
 use Rattle.recovery.proofs.Finds.{sectors_within}

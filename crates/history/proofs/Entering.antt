@@ -14,8 +14,7 @@ use Rattle.store.specs.Steps.{shape_of, flushing, storing, preparing, entering, 
 use Rattle.recovery.specs.Breaks.{more}
 use Rattle.recovery.specs.Data.{DataKept}
 use Rattle.recovery.specs.Readings.{Image, image, found}
-use Rattle.recovery.specs.Standing.{Listed, Stands}
-use Rattle.recovery.specs.Lying.{Lies}
+use Rattle.recovery.specs.Standing.{Listed, Stands, Lies}
 use Rattle.recovery.proofs.Calls.{Did, went, broke, did}
 use Rattle.recovery.proofs.Enters.{entering_lies, entering_stands}
 use Rattle.recovery.proofs.Finds.{sectors_within}

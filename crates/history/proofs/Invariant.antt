@@ -11,8 +11,7 @@ use Rattle.store.specs.Image.{Sizes}
 use Rattle.store.specs.Refusals.{because}
 use Rattle.recovery.specs.Breaks.{Sure}
 use Rattle.recovery.specs.Readings.{Image, image, found}
-use Rattle.recovery.specs.Standing.{Listed, Stands}
-use Rattle.recovery.specs.Lying.{Lies}
+use Rattle.recovery.specs.Standing.{Listed, Stands, Lies}
 use Rattle.history.specs.Steps.{sizes, both_on}
 use Rattle.history.specs.History.{Situation, Call}
 use Rattle.history.specs.Machine.{Plain, Machine, diverged_at, table_of, memory_of, cut_short, Agrees}

@@ -18,8 +18,7 @@ use Rattle.store.specs.Refusals.{StoreSteps}
 use Rattle.store.specs.Steps.{drop_run}
 use Rattle.recovery.specs.Data.{IsData, DataKept}
 use Rattle.recovery.specs.Readings.{image}
-use Rattle.recovery.specs.Standing.{Stands}
-use Rattle.recovery.specs.Lying.{Lies}
+use Rattle.recovery.specs.Standing.{Stands, Lies}
 use Rattle.store.specs.Steps.{only_call}
 use Rattle.history.specs.Faults.{Fault, passed_up, Moves, flush, in_store}
 use Rattle.history.specs.Steps.{sizes, both_on, Memory, closed, serving, invalid, Outcome, giving, guarded, copying_back, Merged, merged_by, run_merging, step_merging, merging_step, step_tests, merge_step, ground}

@@ -10,8 +10,7 @@ use Rattle.layout.specs.declared.exception.Exception.{Exception}
 use Rattle.layout.specs.Chunks.{sectors, per_area, in_copy}
 use Rattle.exceptions.specs.Table.{lookup, linked, reach, last_run}
 use Rattle.recovery.specs.Readings.{Image, image, found}
-use Rattle.recovery.specs.Standing.{Listed, Stands}
-use Rattle.recovery.specs.Lying.{Lies}
+use Rattle.recovery.specs.Standing.{Listed, Stands, Lies}
 use Rattle.recovery.proofs.Prefixes.{listed_take}
 use Rattle.history.specs.Steps.{sizes, both_on, Memory, serving}
 use Rattle.history.specs.Machine.{Plain, settled_cell, perhaps, has_chunk, chunk_of, diverged_at, table_of, run_length, merged_partly, reads_at, Agrees}

@@ -13,8 +13,7 @@ use Rattle.store.specs.Steps.{Contents, opening}
 use Rattle.recovery.specs.Breaks.{Sure}
 use Rattle.recovery.specs.Data.{IsData, DataKept}
 use Rattle.recovery.specs.Readings.{Image, image, found}
-use Rattle.recovery.specs.Standing.{Stands}
-use Rattle.recovery.specs.Lying.{Lies}
+use Rattle.recovery.specs.Standing.{Stands, Lies}
 use Rattle.recovery.proofs.Reaches.{opening_answers}
 use Rattle.recovery.proofs.Opens.{opening_refused}
 use Rattle.recovery.proofs.Stays.{legible_stands}

@@ -11,8 +11,7 @@ use Rattle.store.specs.Refusals.{because}
 use Rattle.store.specs.Steps.{spoiling}
 use Rattle.recovery.specs.Data.{DataKept}
 use Rattle.recovery.specs.Readings.{image, found}
-use Rattle.recovery.specs.Standing.{Stands}
-use Rattle.recovery.specs.Lying.{Lies}
+use Rattle.recovery.specs.Standing.{Stands, Lies}
 use Rattle.recovery.proofs.Finds.{sectors_within}
 use Rattle.recovery.proofs.Keeps.{quiet_keeps, spoiling_quiet}
 use Rattle.recovery.proofs.Spoils.{invalid_opens, spoiling_lies}

@@ -7,8 +7,7 @@ use Rattle.layout.specs.declared.exception.Exception.{Exception}
 use Rattle.layout.specs.Chunks.{sectors, is_data, in_copy}
 use Rattle.store.specs.Image.{Sizes}
 use Rattle.recovery.specs.Readings.{Image, image}
-use Rattle.recovery.specs.Standing.{Stands}
-use Rattle.recovery.specs.Lying.{Lies}
+use Rattle.recovery.specs.Standing.{Stands, Lies}
 use Rattle.recovery.proofs.Finds.{sectors_within}
 use Rattle.recovery.proofs.Stand.{standing_lies}
 use Rattle.history.proofs.Invariant.{Chosen, single_is}

@@ -13,10 +13,9 @@ use Rattle.store.specs.Image.{Sizes}
 use Rattle.store.specs.Refusals.{StoreRefusal, because, up, doing}
 use Rattle.store.specs.Steps.{shape_of, making, spoiling, entering, dropping, enter, entered_at}
 use Rattle.recovery.specs.Readings.{image, found}
-use Rattle.recovery.specs.Standing.{Standing, Listed, Stands}
-use Rattle.recovery.specs.Breaks.{more}
-use Rattle.recovery.specs.Calls.{MakeStands, EnterStands, DropStands, SpoilStays}
-use Rattle.recovery.specs.Lying.{Lies, LyingByMaking, MakeLies, EnterLies, DropLies, SpoilLies}
+use Rattle.recovery.specs.Standing.{Standing, Listed, Stands, Lies}
+use Rattle.recovery.specs.Breaks.{more, LyingByMaking}
+use Rattle.recovery.specs.Calls.{MakeStands, EnterStands, DropStands, SpoilStays, MakeLies, EnterLies, DropLies, SpoilLies}
 use Rattle.recovery.proofs.Allowed.{cut_within}
 use Rattle.recovery.proofs.Drops.{dropping_lies, dropping_stands}
 use Rattle.recovery.proofs.Enters.{entering_lies, entering_stands}

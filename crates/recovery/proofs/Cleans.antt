@@ -16,9 +16,8 @@ use Rattle.store.specs.Refusals.{StoreRefusal, up}
 use Rattle.store.specs.Scanning.{Ending, most_areas}
 use Rattle.store.specs.Steps.{Contents, shape_of, cleaning, opening}
 use Rattle.recovery.specs.Readings.{Image, image, scanned, next}
-use Rattle.recovery.specs.Standing.{Within, ValidHeader, Finds}
-use Rattle.recovery.specs.Breaks.{Sure, CutSure, OpeningBreaks}
-use Rattle.recovery.specs.Lying.{Legible, OpeningLies}
+use Rattle.recovery.specs.Standing.{Within, ValidHeader, Finds, Legible}
+use Rattle.recovery.specs.Breaks.{Sure, CutSure, OpeningBreaks, OpeningLies}
 use Rattle.recovery.proofs.Again.{End, end_of, scanned_again}
 use Rattle.recovery.proofs.Allowed.{Writes, run_within, cut_within}
 use Rattle.recovery.proofs.Calls.{Did, went, broke, never_good as never}

@@ -17,9 +17,8 @@ use Rattle.store.specs.Image.{Sizes}
 use Rattle.store.specs.Steps.{shape_of, finished, flushing, unwinding, dropping}
 use Rattle.recovery.specs.Readings.{Image, image, area_bytes}
 use Rattle.recovery.specs.Holding.{Holds}
-use Rattle.recovery.specs.Standing.{Within, ValidHeader, Standing, Listed}
-use Rattle.recovery.specs.Breaks.{DroppingStands}
-use Rattle.recovery.specs.Lying.{Legible, Lies, DroppingLies}
+use Rattle.recovery.specs.Standing.{Within, ValidHeader, Standing, Listed, Legible, Lies}
+use Rattle.recovery.specs.Breaks.{DroppingStands, DroppingLies}
 use Rattle.recovery.proofs.Allowed.{Writes, on_good, run_within, then_writes, cut_within}
 use Rattle.recovery.proofs.Finds.{sectors_within, finds_what_it_holds}
 use Rattle.recovery.proofs.Legible.{pic_small}

@@ -14,9 +14,8 @@ use Rattle.exceptions.specs.Table.{fills_area}
 use Rattle.store.specs.Image.{Sizes}
 use Rattle.store.specs.Steps.{shape_of, finished, flushing, storing, preparing}
 use Rattle.recovery.specs.Readings.{Image, image}
-use Rattle.recovery.specs.Standing.{Within, ValidHeader, Standing, Listed}
-use Rattle.recovery.specs.Breaks.{more, EnteringStands}
-use Rattle.recovery.specs.Lying.{Lies, EnteringLies}
+use Rattle.recovery.specs.Standing.{Within, ValidHeader, Standing, Listed, Lies}
+use Rattle.recovery.specs.Breaks.{more, EnteringStands, EnteringLies}
 use Rattle.recovery.proofs.Allowed.{Writes, on_good, run_within, by_way, cut_within}
 use Rattle.recovery.proofs.Finds.{sectors_within}
 use Rattle.recovery.proofs.Pictures.{pic_past, length_more, pic_more}

@@ -6,10 +6,9 @@ use Rattle.layout.specs.declared.exception.Exception.{Exception}
 use Rattle.store.specs.Image.{Sizes}
 use Rattle.store.specs.Refusals.{up}
 use Rattle.recovery.specs.Readings.{Image, image, found, OpeningFinds}
-use Rattle.recovery.specs.Standing.{Finds, StandingOpens}
-use Rattle.recovery.specs.Breaks.{EnteringBreaks, LeftByMaking, MakingBreaks, SpoilingBreaks, DroppingBreaks, OpeningStands}
+use Rattle.recovery.specs.Standing.{Finds, StandingOpens, Lies}
+use Rattle.recovery.specs.Breaks.{EnteringBreaks, LeftByMaking, MakingBreaks, SpoilingBreaks, DroppingBreaks, OpeningStands, LyingByMaking}
 use Rattle.recovery.specs.Calls.{MakeBreaks, EnterBreaks, DropBreaks, SpoilBreaks}
-use Rattle.recovery.specs.Lying.{Lies, LyingByMaking}
 use Rattle.recovery.proofs.Calls.{went, broke, make_lies, enter_lies, drop_lies, spoil_lies}
 use Rattle.recovery.proofs.Cleans.{parts, known}
 use Rattle.recovery.proofs.Drops.{dropping_lies}

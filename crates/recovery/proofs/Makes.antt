@@ -16,8 +16,7 @@ use Rattle.store.specs.Scanning.{most_areas}
 use Rattle.store.specs.Steps.{shape_of, writing, flushing, storing, making}
 use Rattle.recovery.specs.Readings.{image, scanned, next}
 use Rattle.recovery.specs.Standing.{Within, Standing, Listed}
-use Rattle.recovery.specs.Breaks.{MakingStands}
-use Rattle.recovery.specs.Lying.{LyingByMaking, MakingLies}
+use Rattle.recovery.specs.Breaks.{MakingStands, LyingByMaking, MakingLies}
 use Rattle.recovery.proofs.Allowed.{Writes, run_within, by_way, cut_within}
 use Rattle.recovery.proofs.Enters.{zeroing_writes, storing_writes}
 use Rattle.recovery.proofs.Finds.{sectors_within}

@@ -13,8 +13,7 @@ use Rattle.store.specs.Image.{Sizes, well_shaped, all_zero, cleaned}
 use Rattle.store.specs.Refusals.{up}
 use Rattle.store.specs.Scanning.{Parsed, full, over, many, wrong, parsed, Ending, most_areas}
 use Rattle.store.specs.Steps.{Contents, shape_of, finished, flushing, cleaning}
-use Rattle.recovery.specs.Readings.{image, area_bytes, found}
-use Rattle.recovery.specs.Lying.{OpeningAnswers}
+use Rattle.recovery.specs.Readings.{image, area_bytes, found, OpeningAnswers}
 use Rattle.recovery.proofs.Calls.{Did, went, broke}
 use Rattle.recovery.proofs.Cleans.{taken, Known, known}
 use Rattle.recovery.proofs.Gone.{Gone, Passes, refused_gone, left_gone}

@@ -14,7 +14,7 @@ use Rattle.store.specs.Scanning.{most_areas}
 use Rattle.store.specs.Steps.{shape_of}
 use Rattle.recovery.specs.Readings.{Image, image, scanned, next, found}
 use Rattle.recovery.specs.Standing.{Within, ValidHeader}
-use Rattle.recovery.specs.Lying.{SpoilingLies}
+use Rattle.recovery.specs.Breaks.{SpoilingLies}
 use Rattle.recovery.proofs.Allowed.{run_within, cut_within}
 use Rattle.recovery.proofs.Enters.{storing_writes}
 use Rattle.recovery.proofs.Places.{not_header}

@@ -10,8 +10,7 @@ use Rattle.store.specs.Scanning.{most_areas}
 use Rattle.store.specs.Steps.{shape_of}
 use Rattle.recovery.specs.Readings.{Image, scanned, next}
 use Rattle.recovery.specs.Holding.{FoundAgain, Pictured}
-use Rattle.recovery.specs.Standing.{ValidHeader, Finds}
-use Rattle.recovery.specs.Lying.{StandingLies}
+use Rattle.recovery.specs.Standing.{ValidHeader, Finds, StandingLies}
 use Rattle.recovery.proofs.Finds.{finds_what_it_holds}
 use Rattle.recovery.proofs.Legible.{pic_small}
 use Rattle.recovery.proofs.Sectors.{Small}

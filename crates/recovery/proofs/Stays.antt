@@ -20,8 +20,7 @@ use Rattle.store.specs.Steps.{Contents, shape_of, finished, flushing, cleaning}
 use Rattle.recovery.specs.Readings.{Image, image, area_bytes}
 use Rattle.recovery.specs.Holding.{Sound}
 use Rattle.recovery.specs.Standing.{ValidHeader, Standing, Stands}
-use Rattle.recovery.specs.Breaks.{Sure}
-use Rattle.recovery.specs.Lying.{LegibleStands}
+use Rattle.recovery.specs.Breaks.{Sure, LegibleStands}
 use Rattle.recovery.proofs.Again.{End}
 use Rattle.recovery.proofs.Calls.{Did, went, broke, never_good}
 use Rattle.recovery.proofs.Cleans.{Parts, parts, known, Opened, unread, cleaned as ran_cleaning, opened}

@@ -8,9 +8,10 @@ use Rattle.layout.specs.declared.exception.Exception.{Exception}
 use Rattle.layout.specs.Chunks.{sectors, is_data}
 use Rattle.store.specs.Image.{Sizes}
 use Rattle.store.specs.Refusals.{StoreRefusal, up}
-use Rattle.store.specs.Steps.{Contents, shape_of, finished, flushing, making, spoiling, opening, enter, drop_run, data_read, data_write}
+use Rattle.store.specs.Steps.{Contents, shape_of, finished, flushing, opening, enter, drop_run, data_read, data_write}
 use Rattle.recovery.specs.Readings.{image}
 use Rattle.recovery.specs.Standing.{Stands, Finds}
+use Rattle.recovery.specs.Calls.{make, spoil}
 
 -- sector s is in a data chunk
 abbrev pub IsData : ℕ → ℕ → Type 0
@@ -23,8 +24,8 @@ pub record DataKept (c : ℕ) (d e : Disk) : Type 0 where
 
 -- every call but a data write keeps all data sectors
 pub record CallsKeepData : Type 0 where
-  pub making : (size : ChunkSize) (d e : Disk) (t : Told StoreRefusal (Unit {0})) → Runs one (lifted up (making (sectors size))) d t e → DataKept (sectors size) d e
-  pub spoiling : (size : ChunkSize) (d e : Disk) (t : Told StoreRefusal (Unit {0})) → Runs one (lifted up (spoiling (sectors size))) d t e → DataKept (sectors size) d e
+  pub making : (size : ChunkSize) (d e : Disk) (t : Told StoreRefusal (Unit {0})) → Runs one (make (sectors size)) d t e → DataKept (sectors size) d e
+  pub spoiling : (size : ChunkSize) (d e : Disk) (t : Told StoreRefusal (Unit {0})) → Runs one (spoil (sectors size)) d t e → DataKept (sectors size) d e
   pub entering : (z : Sizes) (size : ChunkSize) (es : List Exception) (old : ℕ) (d e : Disk) (t : Told StoreRefusal (List Exception)) → Runs one (enter (shape_of z size) es old) d t e → DataKept (sectors size) d e
   pub dropping : (size : ChunkSize) (es : List Exception) (d e : Disk) (t : Told StoreRefusal (List Exception)) → Runs one (drop_run (sectors size) es) d t e → DataKept (sectors size) d e
   pub opening : (z : Sizes) (size : ChunkSize) (es : List Exception) (d e : Disk) (t : Told StoreRefusal Contents) → Finds z size es (image d) → Runs one (opening z 8192) d t e → DataKept (sectors size) d e

@@ -3,5 +3,4 @@ pub mod Holding
 pub mod Standing
 pub mod Breaks
 pub mod Calls
-pub mod Lying
 pub mod Data

@@ -1,6 +1,6 @@
 -- What opening finds, as one function of what the sectors of a COW device read.
-use Rattle.std.specs.Prelude.{◌≡◌, ℕ, zero, suc, ◌+◌, ◌⊎◌, List, [], ◌++◌}
-use Rattle.device.specs.Disk.{Bytes, Disk, Told, good, refused, Refusal}
+use Rattle.std.specs.Prelude.{◌≡◌, ℕ, zero, suc, ◌+◌, ◌<◌, false, ◌⊎◌, List, [], ◌++◌, length}
+use Rattle.device.specs.Disk.{Bytes, Disk, Told, good, refused, Refusal, refusal}
 use Rattle.device.specs.Plans.{Runs, one}
 use Rattle.layout.specs.declared.exception.Exception.{Exception}
 use Rattle.layout.specs.Chunks.{per_area, area_start}
@@ -44,6 +44,14 @@ found z m = next (header_found z (m 0)) (λ size. next (scanned (shape_of z size
 -- an image opens exactly when it obeys this, and with exactly these exceptions, unless the device itself refuses a call
 abbrev pub OpeningFinds : Type 0
 OpeningFinds = (z : Sizes) (d e : Disk) (t : Told StoreRefusal Contents) → Runs one (opening z 8192) d t e → (t ≡ found z (image d)) ⊎ ((r : Refusal) × (t ≡ refused (up r)))
+
+-- The same, unless the device is gone or goes: then the opening is refused so (3). It asks that the device has these sectors, one or
+-- more, and that each reads as 512 bytes.
+abbrev pub OpeningAnswers : Type 0
+OpeningAnswers =
+    (z : Sizes) (d e : Disk) (t : Told StoreRefusal Contents) → z.cow ≡ d.count → 0 < d.count → ((s : ℕ) → s < d.count → length (image d s) ≡ 512) →
+    Runs one (opening z 8192) d t e →
+    ((t ≡ found z (image d)) × (e.on ≡ d.on)) ⊎ ((p : ℕ) × (t ≡ refused (up (refusal 3 p))) × (e.on ≡ false))
 
 -- an opening that refuses an image writes nothing
 abbrev pub OpeningRefused : Type 0

@@ -1,4 +1,4 @@
--- A list of exceptions that stands on a device, and what a power cut in the middle of a call leaves of it.
+-- A list of exceptions that stands on a device, and how it is there in what a power cut leaves.
 use Rattle.std.specs.Prelude.{◌≡◌, ℕ, ◌+◌, ◌*◌, ◌<◌, ◌≤◌, true, List, length}
 use Rattle.std.specs.List.{ContainsAt as Has, AllByRecursion}
 use Rattle.device.specs.Disk.{Bytes, possibilities, Disk, good}
@@ -39,10 +39,29 @@ pub record Stands (z : Sizes) (size : ChunkSize) (es : List Exception) (d : Disk
   pub sectors : Within (Standing (shape_of z size) es) d
   pub single : (b : Bytes) → Has (possibilities (d.cells 0)) b → (d.cells 0).latest ≡ b
 
--- opening finds a list in an image
-abbrev pub Finds : Sizes → ChunkSize → List Exception → Image → Type 0
+-- how a list may be there in an image: Finds, or Lies, which says more
+abbrev pub Presence : Type 1
+Presence = Sizes → ChunkSize → List Exception → Image → Type 0
+
+-- opening finds the list
+abbrev pub Finds : Presence
 Finds z size es m = found z m ≡ good (record { size = size; table = es })
 
--- what stands is found
+-- the sectors of the areas, up to the one where a list ends, hold bytes
+abbrev pub Legible : ChunkSize → List Exception → Image → Type 0
+Legible size es m = (a q : ℕ) → q < sectors size → per_area (sectors size) * a ≤ length es → AllByRecursion (λ b. b < 256) (m (area_start (sectors size) a + q))
+
+-- opening finds the list, in sectors that hold bytes
+pub record Lies (z : Sizes) (size : ChunkSize) (es : List Exception) (m : Image) : Type 0 where
+  pub finds : Finds z size es m
+  pub bytes : Legible size es m
+
+-- a list that stands is there
+abbrev pub StandingShows : Presence → Type 0
+StandingShows There = (z : Sizes) (size : ChunkSize) (es : List Exception) (m : Image) → Listed z size es → ((s : ℕ) → Standing (shape_of z size) es s (m s)) → There z size es m
+
 abbrev pub StandingOpens : Type 0
-StandingOpens = (z : Sizes) (size : ChunkSize) (es : List Exception) (m : Image) → Listed z size es → ((s : ℕ) → Standing (shape_of z size) es s (m s)) → Finds z size es m
+StandingOpens = StandingShows Finds
+
+abbrev pub StandingLies : Type 0
+StandingLies = StandingShows Lies

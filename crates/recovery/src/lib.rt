@@ -2,13 +2,12 @@
 // functions have no code, and their contracts name the theorems.
 #![tactic(auto)]
 
-ghost use Rattle.recovery.specs.Breaks.{CutSure, DroppingBreaks, DroppingStands, EnteringBreaks, EnteringListed, EnteringOrder, EnteringStands, MakingBreaks, MakingStands, OpeningBreaks, OpeningStanding, OpeningStands, SpoilingBreaks};
-ghost use Rattle.recovery.specs.Calls.{DropBreaks, DropStands, EnterBreaks, EnterStands, MakeBreaks, MakeStands, SpoilBreaks, SpoilStays};
+ghost use Rattle.recovery.specs.Breaks.{CutSure, DroppingBreaks, DroppingLies, DroppingStands, EnteringBreaks, EnteringLies, EnteringListed, EnteringOrder, EnteringStands, LegibleStands, MakingBreaks, MakingLies, MakingStands, OpeningBreaks, OpeningLies, OpeningStanding, OpeningStands, SpoilingBreaks, SpoilingLies};
+ghost use Rattle.recovery.specs.Calls.{DropBreaks, DropLies, DropStands, EnterBreaks, EnterLies, EnterStands, MakeBreaks, MakeLies, MakeStands, SpoilBreaks, SpoilLies, SpoilStays};
 ghost use Rattle.recovery.specs.Data.{CallsKeepData, DataCallsKeepList};
 ghost use Rattle.recovery.specs.Holding.{FindsWhatItHolds, PicturesHold};
-ghost use Rattle.recovery.specs.Lying.{DropLies, DroppingLies, EnterLies, EnteringLies, LegibleStands, MakeLies, MakingLies, OpeningAnswers, OpeningLies, SpoilLies, SpoilingLies, StandingLies};
-ghost use Rattle.recovery.specs.Readings.{OpeningFinds, OpeningRefused};
-ghost use Rattle.recovery.specs.Standing.{StandingOpens};
+ghost use Rattle.recovery.specs.Readings.{OpeningAnswers, OpeningFinds, OpeningRefused};
+ghost use Rattle.recovery.specs.Standing.{StandingLies, StandingOpens};
 
 // Opening answers what the sectors read, by one definition, unless a device refuses a call. One with
 // all its sectors refuses only as it is gone. An image that opening refuses it leaves as it is.
