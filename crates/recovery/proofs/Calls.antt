@@ -2,7 +2,7 @@
 use Rattle.std.proofs.Common.{◌≡◌, ℕ, ◌-◌, ◌/◌, ◌<◌, ◌≤◌, Bool, false, not, ◌||◌, ltb, ◌⊎◌, List, [], ◌∷◌, length, take, Some, None, Option, sym, refl, ap, ◌∙◌, subst, inl, inr, ⊎_elim, arith}
 use Rattle.std.proofs.lemmas.Bool.{cases_Bool, or_parts, not-false, ltb-true, cond-true, cond-false}
 use Rattle.device.specs.Disk.{Disk, Told, good, refused, Refusal, Cut, put}
-use Rattle.device.specs.Plans.{Plan, done, Runs, one, onward, raised, lifted}
+use Rattle.device.specs.Plans.{Plan, done, bind, Runs, one, onward, raised, lifted}
 use Rattle.device.proofs.Uses.{over as run_over, halves}
 use Rattle.layout.specs.declared.chunk.ChunkSize.{ChunkSize}
 use Rattle.layout.specs.declared.exception.Exception.{Exception}
@@ -10,19 +10,18 @@ use Rattle.layout.specs.Chunks.{sectors}
 use Rattle.layout.specs.Headers.{header}
 use Rattle.exceptions.specs.Table.{entries_at_most, has_old, last_run, room, without_run}
 use Rattle.store.specs.Image.{Sizes}
-use Rattle.store.specs.Refusals.{StoreRefusal, because, up, doing}
+use Rattle.store.specs.Refusals.{StoreRefusal, StoreSteps, because, up, doing}
 use Rattle.store.specs.Steps.{shape_of, making, spoiling, entering, dropping, enter, entered_at}
 use Rattle.recovery.specs.Readings.{image, found}
-use Rattle.recovery.specs.Standing.{Standing, Listed, Stands, Lies}
-use Rattle.recovery.specs.Breaks.{more, LyingByMaking}
-use Rattle.recovery.specs.Calls.{MakeStands, EnterStands, DropStands, SpoilStays, MakeLies, EnterLies, DropLies, SpoilLies}
+use Rattle.recovery.specs.Standing.{Standing, Stands, Presence, StandingShows}
+use Rattle.recovery.specs.Breaks.{more, MakingLeaves, SpoilingLeaves, DroppingLeaves}
+use Rattle.recovery.specs.Calls.{make, spoil, MakeStands, EnterStands, EnterLeaves, DropStands, DropLeaves, SpoilStays}
 use Rattle.recovery.proofs.Allowed.{cut_within}
-use Rattle.recovery.proofs.Drops.{dropping_lies, dropping_stands}
-use Rattle.recovery.proofs.Enters.{entering_lies, entering_stands}
+use Rattle.recovery.proofs.Drops.{dropping_stands}
+use Rattle.recovery.proofs.Enters.{entering_leaves, entering_stands}
 use Rattle.recovery.proofs.Listing.{entering_listed}
-use Rattle.recovery.proofs.Makes.{making_lies, making_stands}
-use Rattle.recovery.proofs.Spoils.{invalid_opens, spoiling_lies}
-use Rattle.recovery.proofs.Stand.{standing_lies}
+use Rattle.recovery.proofs.Makes.{making_leaves, making_stands}
+use Rattle.recovery.proofs.Spoils.{invalid_opens, spoiling_leaves}
 use Rattle.recovery.proofs.Zeros.{put_here, settled_single, stored_good}
 
 -- steps on the device, and then an answer: they were good and so is it, or the device refused
@@ -30,18 +29,34 @@ pub data Did {A : Type 0} (p : Plan (Unit {0}) (Told Refusal (Unit {0}))) (a : A
   went : Runs one p d (good tt) e → t ≡ good a → Did p a t d e
   broke : (f : Refusal) → Runs one p d (refused f) e → t ≡ refused (up f) → Did p a t d e
 
-pub did : {A : Type 0} (p : Plan (Unit {0}) (Told Refusal (Unit {0}))) (a : A) (t : Told StoreRefusal A) (d e : Disk) → Runs one (doing p (λ _. done (good a))) d t e → Did p a t d e
-did {A} p a t d e r = let h = halves p (λ u. onward (raised up u) (λ _. done (good a))) r in by h.mid h.between h.first h.rest
+-- a plan whose answer is a, or the refusal passed up
+answered : {A : Type 0} (p : Plan (Unit {0}) (Told Refusal (Unit {0}))) (k : Told Refusal (Unit {0}) → StoreSteps A) (a : A) (t : Told StoreRefusal A) (d e : Disk) → k (good tt) ≡ done (good a) → ((f : Refusal) → k (refused f) ≡ done (refused (up f))) → Runs one (bind p k) d t e → Did p a t d e
+answered {A} p k a t d e on_good on_refused r = let h = halves p k r in by h.mid h.between h.first h.rest
   where
-    by : (u : Told Refusal (Unit {0})) (mid : Disk) → Runs one p d u mid → Runs one (onward (raised up u) (λ _. done (good a))) mid t e → Did p a t d e
-    by (good tt) mid first q = let o = run_over q in went (subst (λ y. Runs one p d (good tt) y) (sym o.1) first) o.0
-    by (refused f) mid first q = let o = run_over q in broke f (subst (λ y. Runs one p d (refused f) y) (sym o.1) first) o.0
+    by : (u : Told Refusal (Unit {0})) (mid : Disk) → Runs one p d u mid → Runs one (k u) mid t e → Did p a t d e
+    by (good tt) mid first q = let o = run_over (subst (λ p. Runs one p mid t e) on_good q) in went (subst (λ y. Runs one p d (good tt) y) (sym o.1) first) o.0
+    by (refused f) mid first q = let o = run_over (subst (λ p. Runs one p mid t e) (on_refused f) q) in broke f (subst (λ y. Runs one p d (refused f) y) (sym o.1) first) o.0
+
+pub did : {A : Type 0} (p : Plan (Unit {0}) (Told Refusal (Unit {0}))) (a : A) (t : Told StoreRefusal A) (d e : Disk) → Runs one (doing p (λ _. done (good a))) d t e → Did p a t d e
+did p a t d e r = answered p (λ u. onward (raised up u) (λ _. done (good a))) a t d e refl (λ f. refl) r
+
+pub lifts : (p : Plan (Unit {0}) (Told Refusal (Unit {0}))) (t : Told StoreRefusal (Unit {0})) (d e : Disk) → Runs one (lifted up p) d t e → Did {A = Unit {0}} p tt t d e
+lifts p t d e r = answered p (λ u. done (raised up u)) tt t d e refl (λ f. refl) r
 
 pub never_good : {A X : Type 0} {f : StoreRefusal} {a : A} → good a ≡ refused f → X
 never_good h = absurd (let z : ◌≡◌ {A = ℕ} 0 1 = cc in omega arith)
 
 pub same_answer : {A : Type 0} {a b : A} → ◌≡◌ {A = Told StoreRefusal A} (good a) (good b) → a ≡ b
 same_answer h = cc
+
+-- whatever the answer, the steps ran
+pub did_run : {A : Type 0} {p : Plan (Unit {0}) (Told Refusal (Unit {0}))} {a : A} {t : Told StoreRefusal A} {d e : Disk} → Did p a t d e → (u : Told Refusal (Unit {0})) × Runs one p d u e
+did_run (went run is) = (good tt, run)
+did_run (broke f run is) = (refused f, run)
+
+-- what stands is there after a power cut
+stays : {There : Presence} → StandingShows There → (z : Sizes) (size : ChunkSize) (es : List Exception) (e after : Disk) → Stands z size es e → Cut e after → There z size es (image after)
+stays shows z size es e after stands cut = shows z size es (image after) stands.listed (cut_within (Standing (shape_of z size) es) stands.sectors cut)
 
 -- ENTERING
 
@@ -75,25 +90,16 @@ enter_stands z size es table old d e small few stands r = by (entered z size es 
         subst (λ l. Stands z size l e) (sym (same_answer answer)) (entering_stands z size es _ d e stands (entering_listed z size es old p small few stands.listed free inside is) run)
     by (tried p free inside is (broke f run answer)) = never_good answer
 
-pub enter_lies : EnterLies
-enter_lies z size es old d e after t small few stands r cut = by (entered z size es old t d e r)
+pub enter_leaves : {There : Presence} → StandingShows There → EnterLeaves There
+enter_leaves {There} shows z size es old d e after t small few stands r cut = by (entered z size es old t d e r)
   where
-    Answer : Type 0
-    Answer = Lies z size es (image after) ⊎ ((p : ℕ) × (room entries_at_most (sectors size) (z.cow / sectors size) es ≡ Some p) × Lies z size (more es (record { old = old; new = p })) (image after))
-
-    steps : (p : ℕ) → Listed z size (more es (record { old = old; new = p })) → room entries_at_most (sectors size) (z.cow / sectors size) es ≡ Some p → (u : Told Refusal (Unit {0})) → Runs one (entering (sectors size) (more es (record { old = old; new = p })) (length es)) d u e → Answer
-    steps p listed is u run = ⊎_elim inl (λ new. inr (p, is, new)) (entering_lies z size es _ d e after u stands listed run cut)
-
-    by : Entered z size es old t d e → Answer
-    by (declined f is same) = inl (standing_lies z size es (image after) stands.listed (cut_within (Standing (shape_of z size) es) (subst (λ y. Stands z size es y) (sym same) stands).sectors cut))
-    by (tried p free inside is (went run answer)) = steps p (entering_listed z size es old p small few stands.listed free inside is) is (good tt) run
-    by (tried p free inside is (broke f run answer)) = steps p (entering_listed z size es old p small few stands.listed free inside is) is (refused f) run
+    by : Entered z size es old t d e → There z size es (image after) ⊎ ((p : ℕ) × (room entries_at_most (sectors size) (z.cow / sectors size) es ≡ Some p) × There z size (more es (record { old = old; new = p })) (image after))
+    by (declined f is same) = inl (stays shows z size es e after (subst (λ y. Stands z size es y) (sym same) stands) cut)
+    by (tried p free inside is h) =
+        let u = did_run h in
+        ⊎_elim inl (λ new. inr (p, is, new)) (entering_leaves shows z size es _ d e after u.0 stands (entering_listed z size es old p small few stands.listed free inside is) u.1 cut)
 
 -- DROPPING
-
--- what stands is found after a power cut
-stays : (z : Sizes) (size : ChunkSize) (es : List Exception) (e after : Disk) → Stands z size es e → Cut e after → Lies z size es (image after)
-stays z size es e after stands cut = standing_lies z size es (image after) stands.listed (cut_within (Standing (shape_of z size) es) stands.sectors cut)
 
 pub drop_stands : DropStands
 drop_stands z size [] table d e stands r = let o = run_over r in subst (λ l. Stands z size l e) (sym (same_answer o.0)) (subst (λ y. Stands z size [] y) (sym o.1) stands)
@@ -103,26 +109,13 @@ drop_stands z size (x ∷ xs) table d e stands r = by (did (dropping (sectors si
     by (went run answer) = subst (λ l. Stands z size l e) (sym (same_answer answer)) (dropping_stands z size (x ∷ xs) (length (x ∷ xs) - last_run (sectors size) (x ∷ xs)) d e stands (omega arith) run)
     by (broke f run answer) = never_good answer
 
-pub drop_lies : DropLies
-drop_lies z size [] d e after t stands r cut = (0, omega arith, omega arith, stays z size [] e after (subst (λ y. Stands z size [] y) (sym (run_over r).1) stands) cut)
-drop_lies z size (x ∷ xs) d e after t stands r cut = by (did (dropping (sectors size) (without_run (sectors size) (x ∷ xs)) (length (x ∷ xs))) (without_run (sectors size) (x ∷ xs)) t d e r)
-  where
-    Answer : Type 0
-    Answer = (i : ℕ) × (length (x ∷ xs) - last_run (sectors size) (x ∷ xs) ≤ i) × (i ≤ length (x ∷ xs)) × Lies z size (take i (x ∷ xs)) (image after)
-
-    by : Did (dropping (sectors size) (without_run (sectors size) (x ∷ xs)) (length (x ∷ xs))) (without_run (sectors size) (x ∷ xs)) t d e → Answer
-    by (went run answer) = dropping_lies z size (x ∷ xs) (length (x ∷ xs) - last_run (sectors size) (x ∷ xs)) d e after (good tt) stands (omega arith) run cut
-    by (broke f run answer) = dropping_lies z size (x ∷ xs) (length (x ∷ xs) - last_run (sectors size) (x ∷ xs)) d e after (refused f) stands (omega arith) run cut
+pub drop_leaves : {There : Presence} → StandingShows There → DroppingLeaves There → DropLeaves There
+drop_leaves shows leaves z size [] d e after t stands r cut = (0, omega arith, omega arith, stays shows z size [] e after (subst (λ y. Stands z size [] y) (sym (run_over r).1) stands) cut)
+drop_leaves shows leaves z size (x ∷ xs) d e after t stands r cut =
+    let u = did_run (did (dropping (sectors size) (without_run (sectors size) (x ∷ xs)) (length (x ∷ xs))) (without_run (sectors size) (x ∷ xs)) t d e r) in
+    leaves z size (x ∷ xs) (length (x ∷ xs) - last_run (sectors size) (x ∷ xs)) d e after u.0 stands (omega arith) u.1 cut
 
 -- SPOILING
-
--- a plan with its refusal passed up: a run of the plan itself, good where the answer is
-pub lifts : (p : Plan (Unit {0}) (Told Refusal (Unit {0}))) (t : Told StoreRefusal (Unit {0})) (d e : Disk) → Runs one (lifted up p) d t e → Did {A = Unit {0}} p tt t d e
-lifts p t d e r = let h = halves p (λ u. done (raised up u)) r in by h.mid h.between h.first h.rest
-  where
-    by : (u : Told Refusal (Unit {0})) (mid : Disk) → Runs one p d u mid → Runs one (done (raised up u)) mid t e → Did {A = Unit {0}} p tt t d e
-    by (good tt) mid first q = let o = run_over q in went (subst (λ y. Runs one p d (good tt) y) (sym o.1) first) o.0
-    by (refused f) mid first q = let o = run_over q in broke f (subst (λ y. Runs one p d (refused f) y) (sym o.1) first) o.0
 
 pub spoil_stays : SpoilStays
 spoil_stays z size d e after shape r cut = by (lifts (spoiling (sectors size)) (good tt) d e r)
@@ -134,12 +127,8 @@ spoil_stays z size d e after shape r cut = by (lifts (spoiling (sectors size)) (
         invalid_opens z size (image after) shape (sym (settled_single (put d 0 (header false (sectors size)) s.0) 0 (image after 0) s.1 (cut.one_of 0)) ∙ read)
     by (broke f run answer) = never_good answer
 
-pub spoil_lies : SpoilLies
-spoil_lies z size es d e after t stands r cut = by (lifts (spoiling (sectors size)) t d e r)
-  where
-    by : Did {A = Unit {0}} (spoiling (sectors size)) tt t d e → Lies z size es (image after) ⊎ (found z (image after) ≡ refused (because 6 0 0))
-    by (went run answer) = spoiling_lies z size es d e after (good tt) stands run cut
-    by (broke f run answer) = spoiling_lies z size es d e after (refused f) stands run cut
+pub spoil_leaves : {There : Presence} → StandingShows There → SpoilingLeaves spoil There
+spoil_leaves shows z size es d e after t stands r cut = let u = did_run (lifts (spoiling (sectors size)) t d e r) in spoiling_leaves shows z size es d e after u.0 stands u.1 cut
 
 -- MAKING
 
@@ -150,9 +139,5 @@ make_stands z size d e shape r = by (lifts (making (sectors size)) (good tt) d e
     by (went run answer) = making_stands z size d e shape run
     by (broke f run answer) = never_good answer
 
-pub make_lies : MakeLies
-make_lies z size d e after t shape r cut = by (lifts (making (sectors size)) t d e r)
-  where
-    by : Did {A = Unit {0}} (making (sectors size)) tt t d e → LyingByMaking z size d after
-    by (went run answer) = making_lies z size d e after (good tt) shape run cut
-    by (broke f run answer) = making_lies z size d e after (refused f) shape run cut
+pub make_leaves : {There : Presence} → StandingShows There → MakingLeaves make There
+make_leaves shows z size d e after t shape r cut = let u = did_run (lifts (making (sectors size)) t d e r) in making_leaves shows z size d e after u.0 shape u.1 cut

@@ -18,7 +18,7 @@ use Rattle.store.specs.Steps.{shape_of, finished, flushing, unwinding, dropping}
 use Rattle.recovery.specs.Readings.{Image, image, area_bytes}
 use Rattle.recovery.specs.Holding.{Holds}
 use Rattle.recovery.specs.Standing.{Within, ValidHeader, Standing, Listed, Legible, Lies}
-use Rattle.recovery.specs.Breaks.{DroppingStands, DroppingLies}
+use Rattle.recovery.specs.Breaks.{AfterDropping, DroppingBreaks, DroppingLies, DroppingStands}
 use Rattle.recovery.proofs.Allowed.{Writes, on_good, run_within, then_writes, cut_within}
 use Rattle.recovery.proofs.Finds.{sectors_within, finds_what_it_holds}
 use Rattle.recovery.proofs.Legible.{pic_small}
@@ -172,8 +172,8 @@ module _ (z : Sizes) (size : ChunkSize) (es : List Exception) (k : ℕ) where
           let long = long_take es i within in
           ⊎_elim (λ e. subst Small (sym e) (pic_small es _)) (λ e. subst Small (sym e) (pic_small (take k es) _)) ((all _).areas a q l (omega arith) refl)
 
-      mixed_opens : (i : ℕ) × (k ≤ i) × (i ≤ length es) × Lies z size (take i es) m
-      mixed_opens =
+      mixed_lies : AfterDropping Lies z size es k m
+      mixed_lies =
           ⊎_elim
           (λ none. (length es, few, le_refl _, subst (λ l. Lies z size l m) (sym (take_all (length es) es (le_refl _))) (standing_lies z size es m listed (all_shown none))))
           (λ f.
@@ -185,7 +185,10 @@ module _ (z : Sizes) (size : ChunkSize) (es : List Exception) (k : ℕ) where
 pub dropping_lies : DroppingLies
 dropping_lies z size es k d e after t stands few r cut =
     let before : Within (Mixed z size es k) d = λ s b has. let here = stands.sectors s b has in record { head = here.head; areas = λ a q l le at. inl (here.areas a q l le at) } in
-    mixed_opens z size es k (image after) (cut_within _ (run_within _ (dropping_writes z size es k (length es)) r before) cut) few stands.listed
+    mixed_lies z size es k (image after) (cut_within _ (run_within _ (dropping_writes z size es k (length es)) r before) cut) few stands.listed
+
+pub dropping_breaks : DroppingBreaks
+dropping_breaks z size es k d e after t stands few r cut = let l = dropping_lies z size es k d e after t stands few r cut in (l.0, l.1, l.2, l.3.finds)
 
 -- GOOD
 

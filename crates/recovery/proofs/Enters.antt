@@ -14,13 +14,12 @@ use Rattle.exceptions.specs.Table.{fills_area}
 use Rattle.store.specs.Image.{Sizes}
 use Rattle.store.specs.Steps.{shape_of, finished, flushing, storing, preparing}
 use Rattle.recovery.specs.Readings.{Image, image}
-use Rattle.recovery.specs.Standing.{Within, ValidHeader, Standing, Listed, Lies}
-use Rattle.recovery.specs.Breaks.{more, EnteringStands, EnteringLies}
+use Rattle.recovery.specs.Standing.{Within, ValidHeader, Standing, Presence, StandingShows}
+use Rattle.recovery.specs.Breaks.{more, EnteringLeaves, EnteringStands}
 use Rattle.recovery.proofs.Allowed.{Writes, on_good, run_within, by_way, cut_within}
 use Rattle.recovery.proofs.Finds.{sectors_within}
 use Rattle.recovery.proofs.Pictures.{pic_past, length_more, pic_more}
 use Rattle.recovery.proofs.Places.{same_sector, same_area, not_header, placed, placed_at, beyond, fills_mod, fills_div}
-use Rattle.recovery.proofs.Stand.{standing_lies}
 use Rattle.recovery.proofs.Zeros.{zeros_read, settled_single, put_here, flushed_good, stored_good, then_good}
 
 -- zeros over n sectors
@@ -76,15 +75,15 @@ module _ (z : Sizes) (size : ChunkSize) (es : List Exception) (x : Exception) wh
         (cases_eq (sectors size * a + q) (length es / 32));
   }
 
-  -- whatever is chosen there, one of the two lists is found
-  between_opens : (m : Image) → Listed z size es → Listed z size (more es x) → ((s : ℕ) → Between s (m s)) → Lies z size es m ⊎ Lies z size (more es x) m
-  between_opens m old new all =
+  -- whatever is chosen there, one of the two lists stands
+  between_stands : (m : Image) → ((s : ℕ) → Between s (m s)) → ((s : ℕ) → Standing (shape_of z size) es s (m s)) ⊎ ((s : ℕ) → Standing (shape_of z size) (more es x) s (m s))
+  between_stands m all =
       let j = length es / 32 in
       let at : sectors size * (j / sectors size) + j % sectors size ≡ j = placed (sectors size) j some in
       let longer = length_more es x in
       ⊎_elim
-      (λ e. inl (standing_lies z size es m old (resolved m es (omega arith) (λ k ne. (refl, pic_more es x k ne)) (e ∙ ap (pic es) at) all)))
-      (λ e. inr (standing_lies z size (more es x) m new (resolved m (more es x) (omega arith) (λ k ne. (sym (pic_more es x k ne), refl)) (e ∙ ap (pic (more es x)) at) all)))
+      (λ e. inl (resolved m es (omega arith) (λ k ne. (refl, pic_more es x k ne)) (e ∙ ap (pic es) at) all))
+      (λ e. inr (resolved m (more es x) (omega arith) (λ k ne. (sym (pic_more es x k ne), refl)) (e ∙ ap (pic (more es x)) at) all))
       ((all (area_place (sectors size) j)).areas (j / sectors size) (j % sectors size) (mod-lt j some) (let h = entry_in_list in omega arith) refl)
 
   -- after the first flush the list stands with one possibility a sector, and the next area has zeros where the list is to reach it
@@ -125,8 +124,8 @@ module _ (z : Sizes) (size : ChunkSize) (es : List Exception) (x : Exception) wh
         inr (ap (pic (more es x)) (sym (placed (sectors size) j some) ∙ (λ i. sectors size * area i + sector i)));
   }
 
-pub entering_lies : EnteringLies
-entering_lies z size es x d e after t stands listed r cut =
+pub entering_leaves : {There : Presence} → StandingShows There → EnteringLeaves There
+entering_leaves {There} shows z size es x d e after t stands listed r cut =
     let h = halves (preparing (fills_area c (length es)) c (length es / per_area c + 1)) (λ t. onward t (λ _. rest)) r in
     by h.mid h.between h.first h.rest
   where
@@ -137,15 +136,15 @@ entering_lies z size es x d e after t stands listed r cut =
     rest = flushing (storing (area_place c (length es / 32)) (pic (more es x) (length es / 32)))
 
     Answer : Type 0
-    Answer = Lies z size es (image after) ⊎ Lies z size (more es x) (image after)
+    Answer = There z size es (image after) ⊎ There z size (more es x) (image after)
 
     old : Within (Standing (shape_of z size) es) e → Answer
-    old w = inl (standing_lies z size es (image after) stands.listed (cut_within _ w cut))
+    old w = inl (shows z size es (image after) stands.listed (cut_within _ w cut))
 
     flushed : (mid : Disk) → Within (Standing (shape_of z size) es) mid → ((a i : ℕ) → per_area c * a ≡ length es + 1 → i < c → image mid (area_start c a + i) ≡ replicate 512 0) → Went {B = Unit {0}} one tt flushes (λ _. storing (area_place c (length es / 32)) (pic (more es x) (length es / 32))) mid t e → Answer
     flushed mid w zeros (went_on f is q) =
         let within = run_within (Between z size es x) (storing_writes _ _ _ (entry_between z size es x)) q (settled_between z size es x mid w zeros) in
-        between_opens z size es x (image after) stands.listed listed (cut_within _ within cut)
+        ⊎_elim (λ was. inl (shows z size es (image after) stands.listed was)) (λ new. inr (shows z size (more es x) (image after) listed new)) (between_stands z size es x (image after) (cut_within _ within cut))
     flushed mid w zeros (left_in f is a y) = old (subst (Within _) (sym y) (by_way _ leaves flushes mid f tt w))
     flushed mid w zeros (was_refused f n p is a y) = old (subst (Within _) (sym y) w)
 

@@ -24,7 +24,6 @@ pub mod Calls
 pub mod Learns
 pub mod Settles
 pub mod Stays
-pub mod Finding
 pub mod Keeps
 pub mod Orders
 pub mod Datas

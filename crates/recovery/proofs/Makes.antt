@@ -15,14 +15,13 @@ use Rattle.store.specs.Image.{Sizes, well_shaped, header_found}
 use Rattle.store.specs.Scanning.{most_areas}
 use Rattle.store.specs.Steps.{shape_of, writing, flushing, storing, making}
 use Rattle.recovery.specs.Readings.{image, scanned, next}
-use Rattle.recovery.specs.Standing.{Within, Standing, Listed}
-use Rattle.recovery.specs.Breaks.{MakingStands, LyingByMaking, MakingLies}
+use Rattle.recovery.specs.Standing.{Within, Standing, Listed, Presence, StandingShows}
+use Rattle.recovery.specs.Breaks.{AfterMaking, MakingLeaves, MakingStands}
 use Rattle.recovery.proofs.Allowed.{Writes, run_within, by_way, cut_within}
 use Rattle.recovery.proofs.Enters.{zeroing_writes, storing_writes}
 use Rattle.recovery.proofs.Finds.{sectors_within}
 use Rattle.recovery.proofs.Pictures.{pic_past}
 use Rattle.recovery.proofs.Places.{not_header}
-use Rattle.recovery.proofs.Stand.{standing_lies}
 use Rattle.recovery.proofs.Zeros.{zeros_read, settled_single, put_here, put_elsewhere, flushed_good, written_good, stored_good, then_good}
 
 -- an opening takes an empty list
@@ -74,21 +73,21 @@ flush_step A p {d} {e} {t} w r = by (went r)
     by (left_in f is a y) = inr (subst (Within A) (sym y) (by_way A leaves flushes d f tt w))
     by (was_refused f n p is a y) = inr (subst (Within A) (sym y) w)
 
-module _ (z : Sizes) (size : ChunkSize) (shape : well_shaped z (sectors size) ≡ true) (d after : Disk) where
+module _ {There : Presence} (shows : StandingShows There) (z : Sizes) (size : ChunkSize) (shape : well_shaped z (sectors size) ≡ true) (d after : Disk) where
   abbrev c : ℕ
   c = sectors size
 
   abbrev blank : Bytes
   blank = replicate 512 0
 
-  no_store : image after 0 ≡ blank → LyingByMaking z size d after
+  no_store : image after 0 ≡ blank → AfterMaking There z size d after
   no_store is = inr (inl (ap (λ b. next (header_found z b) (λ size. next (scanned (shape_of z size) (image after) most_areas 0 []) (λ e. good (record { size = size; table = e.table })))) is))
 
   -- before the first flush: as it was, or zeros in the first sector
   abbrev First : ℕ → Bytes → Type 0
   First s b = Has (possibilities (d.cells s)) b ⊎ ((s ≡ 0) × (b ≡ blank))
 
-  first_left : {e : Disk} → Within First e → Cut e after → LyingByMaking z size d after
+  first_left : {e : Disk} → Within First e → Cut e after → AfterMaking There z size d after
   first_left w cut =
       let all = cut_within First w cut in
       ⊎_elim
@@ -100,7 +99,7 @@ module _ (z : Sizes) (size : ChunkSize) (shape : well_shaped z (sectors size) �
   abbrev Second : ℕ → Bytes → Type 0
   Second s b = s ≡ 0 → b ≡ blank
 
-  second_left : {e : Disk} → Within Second e → Cut e after → LyingByMaking z size d after
+  second_left : {e : Disk} → Within Second e → Cut e after → AfterMaking There z size d after
   second_left w cut = no_store (cut_within Second w cut 0 refl)
 
   second_begins : (f : Fate) → Within Second (settled (put d 0 blank f))
@@ -111,12 +110,12 @@ module _ (z : Sizes) (size : ChunkSize) (shape : well_shaped z (sectors size) �
     head : s ≡ 0 → (b ≡ blank) ⊎ (b ≡ header true c)
     area : (q : ℕ) → q < c → s ≡ area_start c 0 + q → b ≡ blank
 
-  third_left : {e : Disk} → Within Third e → Cut e after → LyingByMaking z size d after
+  third_left : {e : Disk} → Within Third e → Cut e after → AfterMaking There z size d after
   third_left w cut =
       let all = cut_within Third w cut in
       ⊎_elim
       no_store
-      (λ new. inr (inr (standing_lies z size [] (image after) (listed_none z size shape) (λ t. record {
+      (λ new. inr (inr (shows z size [] (image after) (listed_none z size shape) (λ t. record {
         head = λ is. ap header_read (ap (image after) is ∙ new) ∙ header_back true size;
         areas = λ k q l le at. (all t).area q l (at ∙ ap (λ i. area_start c i + q) (first_area c k (sectors_within size).0 le)) ∙ sym (pic_past [] (c * k + q) (omega arith));
       }))))
@@ -135,25 +134,25 @@ module _ (z : Sizes) (size : ChunkSize) (shape : well_shaped z (sectors size) �
   abbrev last_part : Steps
   last_part = flushing (storing 0 (header true c))
 
-  third_part : {mid e : Disk} {t : Told Refusal (Unit {0})} → Within Second mid → Within Third (settled mid) → Runs one last_part mid t e → Cut e after → LyingByMaking z size d after
+  third_part : {mid e : Disk} {t : Told Refusal (Unit {0})} → Within Second mid → Within Third (settled mid) → Runs one last_part mid t e → Cut e after → AfterMaking There z size d after
   third_part w begins r cut = ⊎_elim (λ q. third_left (run_within Third (storing_writes Third 0 (header true c) header_third) q begins) cut) (λ h. second_left h cut) (flush_step Second (storing 0 (header true c)) w r)
 
   zeros_second : Writes Second (zeroing (area_start c 0) c)
   zeros_second = zeroing_writes Second c (area_start c 0) (λ i l is. absurd (not_header c 0 i l is))
 
-  second_part : {m e : Disk} {t : Told Refusal (Unit {0})} → Within Second m → Runs one (then (zeroing (area_start c 0) c) (λ _. last_part)) m t e → Cut e after → LyingByMaking z size d after
+  second_part : {m e : Disk} {t : Told Refusal (Unit {0})} → Within Second m → Runs one (then (zeroing (area_start c 0) c) (λ _. last_part)) m t e → Cut e after → AfterMaking There z size d after
   second_part {m} {e} {t} w r cut = let h = halves (zeroing (area_start c 0) c) (λ u. onward u (λ _. last_part)) r in by h.mid h.between h.first h.rest
     where
-      by : (u : Told Refusal (Unit {0})) (mid : Disk) → Runs one (zeroing (area_start c 0) c) m u mid → Runs one (onward u (λ _. last_part)) mid t e → LyingByMaking z size d after
+      by : (u : Told Refusal (Unit {0})) (mid : Disk) → Runs one (zeroing (area_start c 0) c) m u mid → Runs one (onward u (λ _. last_part)) mid t e → AfterMaking There z size d after
       by (good tt) mid first q = let w' = run_within Second zeros_second first w in third_part w' (third_begins w' first) q cut
       by (refused f) mid first q = second_left (subst (Within Second) (sym (run_over q).1) (run_within Second zeros_second first w)) cut
 
-  first_part : {e : Disk} {t : Told Refusal (Unit {0})} → Runs one (making c) d t e → Cut e after → LyingByMaking z size d after
+  first_part : {e : Disk} {t : Told Refusal (Unit {0})} → Runs one (making c) d t e → Cut e after → AfterMaking There z size d after
   first_part r cut =
       ⊎_elim
       (λ a. ⊎_elim (λ q. second_part (second_begins a.0) q cut) (λ h. first_left h cut) (flush_step First (then (zeroing (area_start c 0) c) (λ _. last_part)) a.2 a.1))
       (λ h. first_left h cut)
       (write_step First 0 blank (flushing (then (zeroing (area_start c 0) c) (λ _. last_part))) (inr (refl, refl)) (λ s b has. inl has) r)
 
-pub making_lies : MakingLies
-making_lies z size d e after t shape r cut = first_part z size shape d after r cut
+pub making_leaves : {There : Presence} → StandingShows There → MakingLeaves making There
+making_leaves shows z size d e after t shape r cut = first_part shows z size shape d after r cut

@@ -1,5 +1,5 @@
 -- A run of an opening by what the sectors read.
-use Rattle.std.proofs.Common.{◌≡◌, ℕ, zero, suc, ◌+◌, ◌<◌, List, [], ◌++◌, sym, refl, ap, ◌∙◌, subst, subst₂, arith}
+use Rattle.std.proofs.Common.{◌≡◌, ℕ, zero, suc, ◌+◌, ◌<◌, ◌⊎◌, List, [], ◌++◌, sym, refl, ap, ◌∙◌, subst, subst₂, inl, inr, arith}
 use Rattle.device.specs.Disk.{Bytes, Disk, reads, Told, good, refused, Refusal, refusal}
 use Rattle.device.specs.Plans.{Plan, done, call, Runs, bind, onward, raised, one, gathering}
 use Rattle.device.proofs.Steps.{bind_bind}
@@ -14,7 +14,7 @@ use Rattle.store.specs.Judge.{width}
 use Rattle.store.specs.Refusals.{StoreRefusal, up, doing}
 use Rattle.store.specs.Scanning.{Parsed, full, over, many, wrong, parsed, Ending, concluded, most_areas, scanning}
 use Rattle.store.specs.Steps.{Contents, shape_of, cleaning, loading, heading, opening}
-use Rattle.recovery.specs.Readings.{Image, image, gathered, area_bytes, scanned, next, found, OpeningRefused}
+use Rattle.recovery.specs.Readings.{Image, image, gathered, area_bytes, scanned, next, found, OpeningFinds, OpeningRefused}
 use Rattle.recovery.proofs.Calls.{Did, went, broke, did, never_good}
 use Rattle.recovery.proofs.Gone.{Gone, refused_gone, left_gone}
 
@@ -192,6 +192,15 @@ outcome z d e t r = let h = halves (heading z) after (subst (λ p. Runs one p d 
     by {u} {m} (stopped f is same gone) q =
         let o = run_over (subst (λ u. Runs one (after u) m t e) is q) in
         unread f o.0 (ap (λ y. y.cells) o.1 ∙ same) (λ on. subst (Gone f) (sym o.1) (gone on.header))
+
+pub opening_finds : OpeningFinds
+opening_finds z d e t r = by (outcome z d e t r)
+  where
+    by : Outcome z d t e → (t ≡ found z (image d)) ⊎ ((f : Refusal) × (t ≡ refused (up f)))
+    by (unread f is same gone) = inr (f, is)
+    by (declined f none is same) = inl (is ∙ sym none)
+    by (ran size x head scan (went run is)) = inl (is ∙ sym (found_by z (image d) size _ head scan))
+    by (ran size x head scan (broke f run is)) = inr (f, is)
 
 pub opening_refused : OpeningRefused
 opening_refused z d e t f no_list r = by (outcome z d e t r)

@@ -11,14 +11,13 @@ use Rattle.layout.proofs.Back.{header_back}
 use Rattle.store.specs.Image.{Sizes, well_shaped, header_judged, header_found}
 use Rattle.store.specs.Refusals.{because}
 use Rattle.store.specs.Scanning.{most_areas}
-use Rattle.store.specs.Steps.{shape_of}
+use Rattle.store.specs.Steps.{shape_of, spoiling}
 use Rattle.recovery.specs.Readings.{Image, image, scanned, next, found}
-use Rattle.recovery.specs.Standing.{Within, ValidHeader}
-use Rattle.recovery.specs.Breaks.{SpoilingLies}
+use Rattle.recovery.specs.Standing.{Within, ValidHeader, Presence, StandingShows}
+use Rattle.recovery.specs.Breaks.{SpoilingLeaves}
 use Rattle.recovery.proofs.Allowed.{run_within, cut_within}
 use Rattle.recovery.proofs.Enters.{storing_writes}
 use Rattle.recovery.proofs.Places.{not_header}
-use Rattle.recovery.proofs.Stand.{standing_lies}
 
 -- under way, the header is valid or not, and the areas stay
 record Spoiled (z : Sizes) (size : ChunkSize) (es : List Exception) (at : ℕ) (b : Bytes) : Type 0 where
@@ -32,12 +31,12 @@ pub invalid_opens : (z : Sizes) (size : ChunkSize) (m : Image) → well_shaped z
 invalid_opens z size m shape is =
     ap (λ t. next t (λ size. next (scanned (shape_of z size) m most_areas 0 []) (λ e. good (record { size = size; table = e.table })))) (ap (header_found z) is ∙ invalid_header z size shape)
 
-pub spoiling_lies : SpoilingLies
-spoiling_lies z size es d e after t stands r cut =
+pub spoiling_leaves : {There : Presence} → StandingShows There → SpoilingLeaves spoiling There
+spoiling_leaves shows z size es d e after t stands r cut =
     let writes : Spoiled z size es 0 (header false (sectors size)) = record { head = λ _. inr refl; areas = λ a q l le is. absurd (not_header (sectors size) a q l (sym is)) } in
     let before : Within (Spoiled z size es) d = λ s b has. let here = stands.sectors s b has in record { head = λ is. inl (here.head is); areas = here.areas } in
     let all = cut_within (Spoiled z size es) (run_within (Spoiled z size es) (storing_writes (Spoiled z size es) 0 (header false (sectors size)) writes) r before) cut in
     ⊎_elim
-    (λ valid. inl (standing_lies z size es (image after) stands.listed (λ s. record { head = λ is. subst (λ t. ValidHeader size (image after t)) (sym is) valid; areas = (all s).areas })))
+    (λ valid. inl (shows z size es (image after) stands.listed (λ s. record { head = λ is. subst (λ t. ValidHeader size (image after t)) (sym is) valid; areas = (all s).areas })))
     (λ invalid. inr (invalid_opens z size (image after) stands.listed.shape invalid))
     ((all 0).head refl)

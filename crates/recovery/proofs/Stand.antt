@@ -10,7 +10,7 @@ use Rattle.store.specs.Scanning.{most_areas}
 use Rattle.store.specs.Steps.{shape_of}
 use Rattle.recovery.specs.Readings.{Image, scanned, next}
 use Rattle.recovery.specs.Holding.{FoundAgain, Pictured}
-use Rattle.recovery.specs.Standing.{ValidHeader, Finds, StandingLies}
+use Rattle.recovery.specs.Standing.{ValidHeader, Finds, StandingOpens, StandingLies}
 use Rattle.recovery.proofs.Finds.{finds_what_it_holds}
 use Rattle.recovery.proofs.Legible.{pic_small}
 use Rattle.recovery.proofs.Sectors.{Small}
@@ -32,3 +32,6 @@ standing_lies z size es m listed stand =
       finds = held_opens z size es m listed.shape ((stand 0).head refl) (finds_what_it_holds s m es (pictures_hold s m es listed.fits pictured) listed.sound);
       bytes = λ a q l le. subst Small (sym ((stand _).areas a q l le refl)) (pic_small es (sectors size * a + q));
     }
+
+pub standing_opens : StandingOpens
+standing_opens z size es m listed stand = (standing_lies z size es m listed stand).finds

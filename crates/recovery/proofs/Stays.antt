@@ -20,7 +20,7 @@ use Rattle.store.specs.Steps.{Contents, shape_of, finished, flushing, cleaning}
 use Rattle.recovery.specs.Readings.{Image, image, area_bytes}
 use Rattle.recovery.specs.Holding.{Sound}
 use Rattle.recovery.specs.Standing.{ValidHeader, Standing, Stands}
-use Rattle.recovery.specs.Breaks.{Sure, LegibleStands}
+use Rattle.recovery.specs.Breaks.{Sure, OpeningStands, LegibleStands}
 use Rattle.recovery.proofs.Again.{End}
 use Rattle.recovery.proofs.Calls.{Did, went, broke, never_good}
 use Rattle.recovery.proofs.Cleans.{Parts, parts, known, Opened, unread, cleaned as ran_cleaning, opened}
@@ -202,3 +202,8 @@ legible_stands z size es d e low few same sure small r =
     by : (p : Parts z size es m) → Opened z size p.ending (good (record { size = size; table = es })) d e → Stands z size es e
     by p (unread f is same) = never_good is
     by p (ran_cleaning h) = ready p h
+
+pub opening_stands : OpeningStands
+opening_stands z size es d e low few same sure small r =
+    let k = known z size es d same (parts z size es (image d) (good_finds z d e _ r)) in
+    legible_stands z size es d e low few same sure (λ a q l h. small _ (k.on a q h l)) r

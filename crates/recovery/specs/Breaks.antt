@@ -1,5 +1,5 @@
--- What a call of a store leaves, good or broken off, and after any power cut. What is said of a list that is there is said twice: that
--- opening finds it, and that it lies there.
+-- What a call of a store leaves, good or broken off, and after any power cut. Where it leaves a list, each theorem is of a list that is
+-- there in some way, and is named for both: that opening finds it, and that it lies there.
 use Rattle.std.specs.Prelude.{◌≡◌, ℕ, ◌/◌, ◌^◌, ◌<◌, ◌≤◌, true, false, ◌⊎◌, List, [], ◌∷◌, ◌++◌, length, take, Some}
 use Rattle.std.specs.List.{AllByRecursion, ContainsAt as Has}
 use Rattle.device.specs.Disk.{Bytes, Disk, possibilities, Told, good, refused, Refusal, Whole, Cut}

@@ -1,5 +1,4 @@
-use Rattle.recovery.proofs.Finding.{opening_finds}
-use Rattle.recovery.proofs.Opens.{opening_refused}
+use Rattle.recovery.proofs.Opens.{opening_finds, opening_refused}
 use Rattle.recovery.proofs.Reaches.{opening_answers}
 use Rattle.recovery.proofs.opening_finds_what_is_there.Goals as goal
 

@@ -1,7 +1,6 @@
 use Rattle.recovery.proofs.Cleans.{cut_sure, opening_breaks, opening_lies}
-use Rattle.recovery.proofs.Finding.{opening_stands}
 use Rattle.recovery.proofs.Rests.{opening_standing}
-use Rattle.recovery.proofs.Stays.{legible_stands}
+use Rattle.recovery.proofs.Stays.{legible_stands, opening_stands}
 use Rattle.recovery.proofs.opening_survives_cuts.Goals as goal
 
 pub returns : goal.returns

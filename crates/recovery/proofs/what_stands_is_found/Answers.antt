@@ -1,7 +1,6 @@
-use Rattle.recovery.proofs.Finding.{standing_opens}
 use Rattle.recovery.proofs.Finds.{finds_what_it_holds}
 use Rattle.recovery.proofs.Sheets.{pictures_hold}
-use Rattle.recovery.proofs.Stand.{standing_lies}
+use Rattle.recovery.proofs.Stand.{standing_lies, standing_opens}
 use Rattle.recovery.proofs.what_stands_is_found.Goals as goal
 
 pub returns : goal.returns
