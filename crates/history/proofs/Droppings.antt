@@ -10,15 +10,18 @@ use Rattle.exceptions.specs.Table.{last_run, without_run}
 use Rattle.store.specs.Image.{Sizes}
 use Rattle.store.specs.Refusals.{StoreRefusal, up}
 use Rattle.store.specs.Steps.{finished, flushing, unwinding, dropping, drop_run}
+use Rattle.recovery.specs.Breaks.{AfterDropping}
 use Rattle.recovery.specs.Data.{DataKept}
 use Rattle.recovery.specs.Readings.{image}
 use Rattle.recovery.specs.Standing.{Listed, Stands, Lies}
-use Rattle.recovery.proofs.Calls.{Did, went, broke, did, drop_stands, drop_lies}
+use Rattle.recovery.proofs.Calls.{Did, went, broke, did, drop_stands, drop_leaves}
 use Rattle.recovery.proofs.Datas.{calls_keep_data}
+use Rattle.recovery.proofs.Drops.{dropping_lies}
 use Rattle.recovery.proofs.Finds.{sectors_within}
 use Rattle.recovery.proofs.Learns.{area_sector_on}
 use Rattle.recovery.proofs.Places.{placed}
 use Rattle.recovery.proofs.Sheets.{length_pic}
+use Rattle.recovery.proofs.Stand.{standing_lies}
 use Rattle.history.specs.Faults.{Fault, store_up, in_store}
 use Rattle.history.specs.Steps.{both_on}
 use Rattle.history.proofs.Fair.{Fair, Fared, fine, lost, fares, asks_fair, then_fair}
@@ -52,7 +55,7 @@ dropping_fair z size es kept l =
 -- the shorter list stands on the COW device, or a device went; either way copies keep their bytes
 pub data Dropped (z : Sizes) (size : ChunkSize) (es : List Exception) (d : Disks) (t : Told Fault (List Exception)) (e : Disks) : Type 0 where
   drops_good : (w : Disk) → t ≡ good (without_run (sectors size) es) → e ≡ with_side cow d w → w.on ≡ true → Stands z size (without_run (sectors size) es) w → DataKept (sectors size) d.cow w → Dropped z size es d t e
-  drops_off : (w : Disk) → WentOff t e → e ≡ with_side cow d w → DataKept (sectors size) d.cow w → ((after : Disk) → Cut w after → (i : ℕ) × (length es - last_run (sectors size) es ≤ i) × (i ≤ length es) × Lies z size (take i es) (image after)) → Dropped z size es d t e
+  drops_off : (w : Disk) → WentOff t e → e ≡ with_side cow d w → DataKept (sectors size) d.cow w → ((after : Disk) → Cut w after → AfterDropping Lies z size es (length es - last_run (sectors size) es) (image after)) → Dropped z size es d t e
 
 pub drops : (z : Sizes) (size : ChunkSize) (es : List Exception) {d e : Disks} {t : Told Fault (List Exception)} → 0 < length es → z.cow ≡ d.cow.count → Live d → Stands z size es d.cow → Runs both (in_store (drop_run (sectors size) es)) d t e → Dropped z size es d t e
 drops z size [] some same l stands r = absurd (omega arith)
@@ -87,7 +90,7 @@ drops z size (x ∷ xs) {d} {e} {t} some same l stands r = by (did (dropping c l
         drops_off a.disk
         (record { fault = store_up (up (refusal 3 q)); told = a.told ∙ ap (raised store_up) (is ∙ ap (λ y. refused (up y)) three_is); number = three cow q; gone = subst (λ y. both_on y ≡ false) (sym a.left) (off_side cow d a.disk off) })
         a.left data_kept
-        (λ after cut. drop_lies z size es d.cow a.disk after a.answer stands a.ran cut)
+        (λ after cut. drop_leaves standing_lies dropping_lies z size es d.cow a.disk after a.answer stands a.ran cut)
 
     by : Did (dropping c left (length es)) left a.answer d.cow a.disk → Dropped z size es d t e
     by (went q is) = good_drop is (fared q)

@@ -16,7 +16,7 @@ use Rattle.recovery.specs.Data.{DataKept}
 use Rattle.recovery.specs.Readings.{Image, image, found}
 use Rattle.recovery.specs.Standing.{Listed, Stands, Lies}
 use Rattle.recovery.proofs.Calls.{Did, went, broke, did}
-use Rattle.recovery.proofs.Enters.{entering_lies, entering_stands}
+use Rattle.recovery.proofs.Enters.{entering_leaves, entering_stands}
 use Rattle.recovery.proofs.Finds.{sectors_within}
 use Rattle.recovery.proofs.Keeps.{quiet_keeps, entering_quiet}
 use Rattle.recovery.proofs.Listing.{entering_listed}
@@ -181,7 +181,7 @@ module _ (p : Plain) (valid : p.void ≡ false) (d : Disks) (st : Up p (serving 
         inr (parted_covers p s k out free e valid (subst (Listed p.size p.chunk) (sym is) listed_longer) (left_one _ (subst (λ l. Lies p.size p.chunk l (image e.cow)) (sym is) new))
         (λ u b l same has. lasts _ b (new_data u) ((cut_fewer cut.cow).possible _ b has) ∙ filled u l same)
         cut_copies cut_sizes cut_origin shares))
-        (entering_lies p.size p.chunk (table_of p) new_one d.cow w e.cow t stand listed_longer run cut.cow))
+        (entering_leaves standing_lies p.size p.chunk (table_of p) new_one d.cow w e.cow t stand listed_longer run cut.cow))
         (entering_order p.size p.chunk (table_of p) new_one d.cow w t stand listed_longer run)
 
   -- how entering ends: the chunk has diverged; or a device went, and then it has or has not

@@ -14,7 +14,8 @@ use Rattle.recovery.specs.Readings.{image, found}
 use Rattle.recovery.specs.Standing.{Stands, Lies}
 use Rattle.recovery.proofs.Finds.{sectors_within}
 use Rattle.recovery.proofs.Keeps.{quiet_keeps, spoiling_quiet}
-use Rattle.recovery.proofs.Spoils.{invalid_opens, spoiling_lies}
+use Rattle.recovery.proofs.Spoils.{invalid_opens, spoiling_leaves}
+use Rattle.recovery.proofs.Stand.{standing_lies}
 use Rattle.recovery.proofs.Zeros.{put_here, settled_single, stored_good}
 use Rattle.history.specs.Faults.{Fault, passed_up, at_side}
 use Rattle.history.specs.Steps.{sizes, serving, invalid}
@@ -100,7 +101,7 @@ module _ (p : Plain) (valid : p.void ≡ false) (d : Disks) (up : Up p (serving 
     }
 
     spoils_survive : Covers p e ⊎ Covers (voided p) e
-    spoils_survive = ⊎_elim (λ lies. inl (still_valid lies)) (λ is. inr (void_now is)) (spoiling_lies p.size p.chunk (table_of p) d.cow w e.cow t stand run cut.cow)
+    spoils_survive = ⊎_elim (λ lies. inl (still_valid lies)) (λ is. inr (void_now is)) (spoiling_leaves standing_lies p.size p.chunk (table_of p) d.cow w e.cow t stand run cut.cow)
 
   -- how spoiling ends: the view is void; or a device went, and then it is or is not
   pub data Spoils (t : Told Fault (Unit {0})) (e : Disks) : Type 0 where

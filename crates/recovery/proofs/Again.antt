@@ -29,13 +29,13 @@ judgement s a k es x next es' p h =
     ⊎_elim
     (λ m.
     let is : many ≡ over es' p = sym (cond-true (leb entries_at_most (length es)) _ _ m) ∙ sym (skip next) ∙ h in
-    absurd (let z : ◌≡◌ {A = ℕ} 0 1 = cc in omega arith))
+    cc)
     (λ few.
     let on : (n : Parsed) → judged s a k es x n ≡ cond (damaged s a k es x) (wrong k) n = λ n. skip n ∙ cond-false (leb entries_at_most (length es)) _ _ few in
     ⊎_elim
     (λ bad.
     let is : wrong k ≡ over es' p = sym (cond-true (damaged s a k es x) _ _ bad) ∙ sym (on next) ∙ h in
-    absurd (let z : ◌≡◌ {A = ℕ} 0 1 = cc in omega arith))
+    cc)
     (λ fine.
     let pass : (n : Parsed) → judged s a k es x n ≡ n = λ n. on n ∙ cond-false (damaged s a k es x) _ _ fine in
     goes pass (sym (pass next) ∙ h))
@@ -50,7 +50,7 @@ pub record Place (bytes : Bytes) (n k p : ℕ) : Type 0 where
   pub ends : (nth_entry bytes p).new ≡ 0
 
 pub place_of : (s : Shape) (a : ℕ) (bytes : Bytes) (n k : ℕ) (es : List Exception) (es' : List Exception) (p : ℕ) → parsed s a bytes n k es ≡ over es' p → Place bytes n k p
-place_of s a bytes zero k es es' p h = absurd (let z : ◌≡◌ {A = ℕ} 0 1 = cc in omega arith)
+place_of s a bytes zero k es es' p h = cc
 place_of s a bytes (suc n) k es es' p h = by (λ l is. place_of s a bytes n (k + 1) l es' p is) (judgement s a k es (nth_entry bytes k) _ es' p h)
   where
     by : ((l : List Exception) → parsed s a bytes n (k + 1) l ≡ over es' p → Place bytes n (k + 1) p) → Judgement s a k es (nth_entry bytes k) (parsed s a bytes n (k + 1) (es ++ (nth_entry bytes k ∷ []))) es' p → Place bytes (suc n) k p
@@ -95,7 +95,7 @@ pub record End (s : Shape) (m : Image) (a : ℕ) (x : Ending) : Type 0 where
 module _ (s : Shape) (m : Image) where
   pub end_of : (n a : ℕ) (es : List Exception) (x : Ending) → scanned s m n a es ≡ good x → End s m a x
   unfolding scanned
-  end_of zero a es x h = absurd (let z : ◌≡◌ {A = ℕ} 0 1 = cc in omega arith)
+  end_of zero a es x h = cc
   end_of (suc n) a es x h = by (λ l is. end_of n (a + 1) l x is) (parsed s a (area_bytes s m a) (per_area (width s)) 0 es) refl h
     where
       by : ((l : List Exception) → scanned s m n (a + 1) l ≡ good x → End s m (a + 1) x) → (p : Parsed) → parsed s a (area_bytes s m a) (per_area (width s)) 0 es ≡ p → concluded (λ t. t) a (area_bytes s m a) p (scanned s m n (a + 1)) ≡ good x → End s m a x
@@ -111,13 +111,13 @@ module _ (s : Shape) (m : Image) where
             inside = omega (arith, r.inside);
             ends = (λ i. (nth_entry (area_bytes s m (sym area i)) (sym place i)).new) ∙ r.ends;
           }
-      by on many is g = absurd (let z : ◌≡◌ {A = ℕ} 0 1 = cc in omega arith)
-      by on (wrong k) is g = absurd (let z : ◌≡◌ {A = ℕ} 0 1 = cc in omega arith)
+      by on many is g = cc
+      by on (wrong k) is g = cc
 
   module _ (m' : Image) (x : Ending) (keeps : Keeps s m m' x) where
     pub scanned_again : (n a : ℕ) (es : List Exception) → scanned s m n a es ≡ good x → scanned s m' n a es ≡ good (ending x.table x.area x.place (area_bytes s m' x.area))
     unfolding scanned
-    scanned_again zero a es h = absurd (let z : ◌≡◌ {A = ℕ} 0 1 = cc in omega arith)
+    scanned_again zero a es h = cc
     scanned_again (suc n) a es h = by (λ l is. scanned_again n (a + 1) l is) (parsed s a (area_bytes s m a) (per_area (width s)) 0 es) refl h
       where
         by : ((l : List Exception) → scanned s m n (a + 1) l ≡ good x → scanned s m' n (a + 1) l ≡ good (ending x.table x.area x.place (area_bytes s m' x.area))) → (p : Parsed) → parsed s a (area_bytes s m a) (per_area (width s)) 0 es ≡ p → concluded (λ t. t) a (area_bytes s m a) p (scanned s m n (a + 1)) ≡ good x → scanned s m' (suc n) a es ≡ good (ending x.table x.area x.place (area_bytes s m' x.area))
@@ -135,5 +135,5 @@ module _ (s : Shape) (m : Image) where
             let end : (nth_entry (area_bytes s m' a) k).new ≡ 0 = (λ i. (nth_entry (area_bytes s m' (area i)) (place i)).new) ∙ keeps.end in
             ap (λ p. concluded (λ t. t) a (area_bytes s m' a) p (scanned s m' n (a + 1))) (parsed_again s a (area_bytes s m a) (area_bytes s m' a) (per_area (width s)) 0 es es' k is entries end)
             ∙ (λ i. good (ending (list i) (area i) (place i) (area_bytes s m' (area i))))
-        by on many is g = absurd (let z : ◌≡◌ {A = ℕ} 0 1 = cc in omega arith)
-        by on (wrong k) is g = absurd (let z : ◌≡◌ {A = ℕ} 0 1 = cc in omega arith)
+        by on many is g = cc
+        by on (wrong k) is g = cc

@@ -1,5 +1,5 @@
 -- The calls of a store, good or broken off.
-use Rattle.std.proofs.Common.{◌≡◌, ℕ, ◌-◌, ◌/◌, ◌<◌, ◌≤◌, Bool, false, not, ◌||◌, ltb, ◌⊎◌, List, [], ◌∷◌, length, take, Some, None, Option, sym, refl, ap, ◌∙◌, subst, inl, inr, ⊎_elim, arith}
+use Rattle.std.proofs.Common.{◌≡◌, ℕ, ◌-◌, ◌/◌, ◌<◌, Bool, false, not, ◌||◌, ltb, ◌⊎◌, List, [], ◌∷◌, length, Some, None, Option, sym, refl, ap, ◌∙◌, subst, inl, inr, ⊎_elim, arith}
 use Rattle.std.proofs.lemmas.Bool.{cases_Bool, or_parts, not-false, ltb-true, cond-true, cond-false}
 use Rattle.device.specs.Disk.{Disk, Told, good, refused, Refusal, Cut, put}
 use Rattle.device.specs.Plans.{Plan, done, bind, Runs, one, onward, raised, lifted}
@@ -43,9 +43,6 @@ did p a t d e r = answered p (λ u. onward (raised up u) (λ _. done (good a))) 
 pub lifts : (p : Plan (Unit {0}) (Told Refusal (Unit {0}))) (t : Told StoreRefusal (Unit {0})) (d e : Disk) → Runs one (lifted up p) d t e → Did {A = Unit {0}} p tt t d e
 lifts p t d e r = answered p (λ u. done (raised up u)) tt t d e refl (λ f. refl) r
 
-pub never_good : {A X : Type 0} {f : StoreRefusal} {a : A} → good a ≡ refused f → X
-never_good h = absurd (let z : ◌≡◌ {A = ℕ} 0 1 = cc in omega arith)
-
 pub same_answer : {A : Type 0} {a b : A} → ◌≡◌ {A = Told StoreRefusal A} (good a) (good b) → a ≡ b
 same_answer h = cc
 
@@ -85,10 +82,10 @@ pub enter_stands : EnterStands
 enter_stands z size es table old d e small few stands r = by (entered z size es old (good table) d e r)
   where
     by : Entered z size es old (good table) d e → Stands z size table e
-    by (declined f is same) = never_good is
+    by (declined f is same) = cc
     by (tried p free inside is (went run answer)) =
         subst (λ l. Stands z size l e) (sym (same_answer answer)) (entering_stands z size es _ d e stands (entering_listed z size es old p small few stands.listed free inside is) run)
-    by (tried p free inside is (broke f run answer)) = never_good answer
+    by (tried p free inside is (broke f run answer)) = cc
 
 pub enter_leaves : {There : Presence} → StandingShows There → EnterLeaves There
 enter_leaves {There} shows z size es old d e after t small few stands r cut = by (entered z size es old t d e r)
@@ -107,7 +104,7 @@ drop_stands z size (x ∷ xs) table d e stands r = by (did (dropping (sectors si
   where
     by : Did (dropping (sectors size) (without_run (sectors size) (x ∷ xs)) (length (x ∷ xs))) (without_run (sectors size) (x ∷ xs)) (good table) d e → Stands z size table e
     by (went run answer) = subst (λ l. Stands z size l e) (sym (same_answer answer)) (dropping_stands z size (x ∷ xs) (length (x ∷ xs) - last_run (sectors size) (x ∷ xs)) d e stands (omega arith) run)
-    by (broke f run answer) = never_good answer
+    by (broke f run answer) = cc
 
 pub drop_leaves : {There : Presence} → StandingShows There → DroppingLeaves There → DropLeaves There
 drop_leaves shows leaves z size [] d e after t stands r cut = (0, omega arith, omega arith, stays shows z size [] e after (subst (λ y. Stands z size [] y) (sym (run_over r).1) stands) cut)
@@ -125,7 +122,7 @@ spoil_stays z size d e after shape r cut = by (lifts (spoiling (sectors size)) (
         let s = stored_good run in
         let read : image e 0 ≡ header false (sectors size) = ap (λ y. image y 0) s.1 ∙ put_here d 0 (header false (sectors size)) s.0 in
         invalid_opens z size (image after) shape (sym (settled_single (put d 0 (header false (sectors size)) s.0) 0 (image after 0) s.1 (cut.one_of 0)) ∙ read)
-    by (broke f run answer) = never_good answer
+    by (broke f run answer) = cc
 
 pub spoil_leaves : {There : Presence} → StandingShows There → SpoilingLeaves spoil There
 spoil_leaves shows z size es d e after t stands r cut = let u = did_run (lifts (spoiling (sectors size)) t d e r) in spoiling_leaves shows z size es d e after u.0 stands u.1 cut
@@ -137,7 +134,7 @@ make_stands z size d e shape r = by (lifts (making (sectors size)) (good tt) d e
   where
     by : Did {A = Unit {0}} (making (sectors size)) tt (good tt) d e → Stands z size [] e
     by (went run answer) = making_stands z size d e shape run
-    by (broke f run answer) = never_good answer
+    by (broke f run answer) = cc
 
 pub make_leaves : {There : Presence} → StandingShows There → MakingLeaves make There
 make_leaves shows z size d e after t shape r cut = let u = did_run (lifts (making (sectors size)) t d e r) in making_leaves shows z size d e after u.0 shape u.1 cut

@@ -20,18 +20,12 @@ use Rattle.recovery.specs.Standing.{Within, ValidHeader, Finds, Legible}
 use Rattle.recovery.specs.Breaks.{Sure, CutSure, OpeningBreaks, OpeningLies}
 use Rattle.recovery.proofs.Again.{End, end_of, scanned_again}
 use Rattle.recovery.proofs.Allowed.{Writes, run_within, cut_within}
-use Rattle.recovery.proofs.Calls.{Did, went, broke, never_good as never}
+use Rattle.recovery.proofs.Calls.{Did, same_answer, did_run}
 use Rattle.recovery.proofs.Learns.{Learnt, learnt_none, scanned_fine, area_sector_on}
 use Rattle.recovery.proofs.Legible.{gathered_small, cleaning_writes}
 use Rattle.recovery.proofs.Opens.{Outcome, unread as not_read, declined, ran, outcome, found_by}
 use Rattle.recovery.proofs.Sectors.{Small}
 use Rattle.recovery.proofs.Tidies.{Tidy, tidy_before, tidy_keeps, cleaning_tidies}
-
-same_contents : {c c' : Contents} → ◌≡◌ {A = Told StoreRefusal Contents} (good c) (good c') → c ≡ c'
-same_contents h = cc
-
-never_good : {f : StoreRefusal} {c : Contents} → refused f ≡ good c → ⊥
-never_good h = let z : ◌≡◌ {A = ℕ} 0 1 = cc in omega arith
 
 -- what is found comes from the header and the scan
 pub record Parts (z : Sizes) (size : ChunkSize) (es : List Exception) (m : Image) : Type 0 where
@@ -45,41 +39,35 @@ parts z size es m h = by_head (header_found z (m 0)) refl h
   where
     by_scan : (size' : ChunkSize) → header_found z (m 0) ≡ good size' → (v : Told StoreRefusal Ending) → scanned (shape_of z size') m most_areas 0 [] ≡ v → next {B = Contents} v (λ e. good (record { size = size'; table = e.table })) ≡ good (record { size = size; table = es }) → Parts z size es m
     by_scan size' head (good x) is g =
-        let same : size' ≡ size = ap (λ c. c.size) (same_contents g) in
-        let list : x.table ≡ es = ap (λ c. c.table) (same_contents g) in
+        let same : size' ≡ size = ap (λ c. c.size) (same_answer g) in
+        let list : x.table ≡ es = ap (λ c. c.table) (same_answer g) in
         record { head = head ∙ ap good same; ending = x; list = list; scan = ap (λ k. scanned (shape_of z k) m most_areas 0 []) (sym same) ∙ is }
-    by_scan size' head (refused f) is g = absurd (never_good g)
+    by_scan size' head (refused f) is g = cc
 
     by_head : (u : Told StoreRefusal ChunkSize) → header_found z (m 0) ≡ u → next {B = Contents} u (λ size. next (scanned (shape_of z size) m most_areas 0 []) (λ e. good (record { size = size; table = e.table }))) ≡ good (record { size = size; table = es }) → Parts z size es m
     by_head (good size') is g = by_scan size' is (scanned (shape_of z size') m most_areas 0 []) refl g
-    by_head (refused f) is g = absurd (never_good g)
+    by_head (refused f) is g = cc
 
 -- a header that was taken
 pub record Taken (z : Sizes) (size : ChunkSize) (b : Bytes) : Type 0 where
   pub shape : well_shaped z (sectors size) ≡ true
   pub valid : ValidHeader size b
 
-same_ending : {a b : Ending} → ◌≡◌ {A = Told StoreRefusal Ending} (good a) (good b) → a ≡ b
-same_ending h = cc
-
-same_size : {a b : ChunkSize} → ◌≡◌ {A = Told StoreRefusal ChunkSize} (good a) (good b) → a ≡ b
-same_size h = cc
-
 pub taken : (z : Sizes) (size : ChunkSize) (b : Bytes) → header_found z b ≡ good size → Taken z size b
 taken z size b h = by (header_read b) refl h
   where
     by : (v : Told ℕ Header) → header_read b ≡ v → header_judged z v ≡ good size → Taken z size b
-    by (refused n) is g = never (sym g)
+    by (refused n) is g = cc
     by (good k) is g =
         ⊎_elim
         (λ shaped.
         ⊎_elim
         (λ valid.
-        let same : k.size ≡ size = same_size (sym (cond-true k.valid _ _ valid) ∙ sym (cond-true (well_shaped z (sectors k.size)) _ _ shaped) ∙ g) in
+        let same : k.size ≡ size = same_answer (sym (cond-true k.valid _ _ valid) ∙ sym (cond-true (well_shaped z (sectors k.size)) _ _ shaped) ∙ g) in
         record { shape = subst (λ c. well_shaped z (sectors c) ≡ true) same shaped; valid = is ∙ (λ i. good (record { valid = valid i; size = same i })) })
-        (λ invalid. never (sym (sym (cond-false k.valid _ _ invalid) ∙ sym (cond-true (well_shaped z (sectors k.size)) _ _ shaped) ∙ g)))
+        (λ invalid. cc (sym (cond-false k.valid _ _ invalid) ∙ sym (cond-true (well_shaped z (sectors k.size)) _ _ shaped) ∙ g))
         (cases_Bool k.valid))
-        (λ misshaped. never (sym (sym (cond-false (well_shaped z (sectors k.size)) _ _ misshaped) ∙ g)))
+        (λ misshaped. cc (sym (cond-false (well_shaped z (sectors k.size)) _ _ misshaped) ∙ g))
         (cases_Bool (well_shaped z (sectors k.size)))
 
 -- what an opening that finds a list knows of it
@@ -114,17 +102,16 @@ opened z size x d head scan t e r = by (outcome z d e t r)
   where
     by : Outcome z d t e → Opened z size x t d e
     by (not_read f is same gone) = unread f is same
-    by (declined f none is same) = never (sym (found_by z (image d) size (good x) head scan) ∙ none)
+    by (declined f none is same) = cc (found_by z (image d) size (good x) head scan)
     by (ran size' x' head' scan' h) =
-        let alike : size' ≡ size = same_size (sym head' ∙ head) in
-        let ends : x' ≡ x = same_ending (sym scan' ∙ ap (λ c. scanned (shape_of z c) (image d) most_areas 0 []) alike ∙ scan) in
+        let alike : size' ≡ size = same_answer (sym head' ∙ head) in
+        let ends : x' ≡ x = same_answer (sym scan' ∙ ap (λ c. scanned (shape_of z c) (image d) most_areas 0 []) alike ∙ scan) in
         subst₂ (λ c y. Opened z c y t d e) alike ends (cleaned h)
 
 -- an opening leaves what its cleaning may write, and else nothing new
 opened_within : (A : ℕ → Bytes → Type 0) (z : Sizes) (size : ChunkSize) (x : Ending) (t : Told StoreRefusal Contents) (d e : Disk) → Writes A (cleaning (sectors size) x) → Within A d → Opened z size x t d e → Within A e
 opened_within A z size x t d e ok before (unread f is same) = subst (λ c. (k : ℕ) (b : Bytes) → Has (possibilities (c k)) b → A k b) (sym same) before
-opened_within A z size x t d e ok before (cleaned (went run is)) = run_within A ok run before
-opened_within A z size x t d e ok before (cleaned (broke f run is)) = run_within A ok run before
+opened_within A z size x t d e ok before (cleaned h) = run_within A ok (did_run h).1 before
 
 -- where each sector has one possibility, what it reads decides
 sure_within : (A : ℕ → Bytes → Type 0) (d : Disk) → Sure d → ((at : ℕ) → A at (image d at)) → Within A d

@@ -21,15 +21,14 @@ use Rattle.recovery.specs.Standing.{Within, Standing, Stands}
 use Rattle.recovery.specs.Data.{IsData, DataKept, CallsKeepData, DataCallsKeepList}
 use Rattle.recovery.proofs.Again.{end_of}
 use Rattle.recovery.proofs.Allowed.{Writes, on_good, run_within}
-use Rattle.recovery.proofs.Calls.{Did, went, broke, did, Entered, declined, tried, entered, lifts}
+use Rattle.recovery.proofs.Calls.{Did, did, did_run, Entered, declined, tried, entered, lifts}
 use Rattle.recovery.proofs.Cleans.{parts, Opened, unread, cleaned, opened}
 use Rattle.recovery.proofs.Finds.{sectors_within}
 use Rattle.recovery.proofs.Keeps.{Quiet, quiet_keeps, kept_same, header_no_data, area_no_data, making_quiet, spoiling_quiet, entering_quiet, dropping_quiet, cleaning_quiet}
 
 -- steps on the device that write no data
 did_keeps : {A : Type 0} (c : ℕ) (p : Plan (Unit {0}) (Told Refusal (Unit {0}))) (a : A) (t : Told StoreRefusal A) (d e : Disk) → Quiet c p → Did p a t d e → DataKept c d e
-did_keeps c p a t d e quiet (went run is) = quiet_keeps c p (good tt) d e quiet run
-did_keeps c p a t d e quiet (broke f run is) = quiet_keeps c p (refused f) d e quiet run
+did_keeps c p a t d e quiet h = let u = did_run h in quiet_keeps c p u.0 d e quiet u.1
 
 entered_keeps : (z : Sizes) (size : ChunkSize) (es : List Exception) (old : ℕ) (d e : Disk) (t : Told StoreRefusal (List Exception)) → Entered z size es old t d e → DataKept (sectors size) d e
 entered_keeps z size es old d e t (declined f is same) = kept_same (sectors size) d e (ap (λ y. y.cells) same)
@@ -119,8 +118,7 @@ module _ (A : ℕ → Bytes → Type 0) (s : ℕ) where
       steps u = asking (writes s bytes) (λ _. done (good tt))
 
 flush_stands : (z : Sizes) (size : ChunkSize) (es : List Exception) (d e : Disk) (t : Told StoreRefusal (Unit {0})) → Stands z size es d → Did {A = Unit {0}} (flushing finished) tt t d e → Stands z size es e
-flush_stands z size es d e t stands (went run is) = still_stands z size es (flushing finished) _ d e (λ A ok. (tt, on_good A (λ _. finished) (λ _. tt))) stands run
-flush_stands z size es d e t stands (broke f run is) = still_stands z size es (flushing finished) _ d e (λ A ok. (tt, on_good A (λ _. finished) (λ _. tt))) stands run
+flush_stands z size es d e t stands h = still_stands z size es (flushing finished) _ d e (λ A ok. (tt, on_good A (λ _. finished) (λ _. tt))) stands (did_run h).1
 
 pub data_calls_keep_list : DataCallsKeepList
 data_calls_keep_list = record {

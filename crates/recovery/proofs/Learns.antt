@@ -114,7 +114,7 @@ module _ (s : Shape) (m : Image) where
   -- what a scan finds
   pub scanned_fine : (x : Ending) (n a : ℕ) (l : List Exception) → length l ≡ per_area (width s) * a → Learnt l → scanned s m n a l ≡ good x → Learnt x.table × (length x.table ≡ per_area (width s) * x.area + x.place)
   unfolding scanned
-  scanned_fine x zero a l size h is = absurd (let z : ◌≡◌ {A = ℕ} 0 1 = cc in omega arith)
+  scanned_fine x zero a l size h is = cc
   scanned_fine x (suc n) a l size h is =
       by (λ l' size' h' is'. scanned_fine x n (a + 1) l' size' h' is') (parsed s a (area_bytes s m a) (per_area (width s)) 0 l) (parsed_fine a (per_area (width s)) 0 l (omega arith) (omega arith) h) is
     where
@@ -128,8 +128,8 @@ module _ (s : Shape) (m : Image) where
           let place : k ≡ x.place = cc in
           let list : l' ≡ x.table = cc in
           subst (λ t. Learnt t × (length t ≡ per_area (width s) * x.area + x.place)) list (f.0, f.1 ∙ ap₂ (λ b j. per_area (width s) * b + j) area place)
-      by on many f g = absurd (let z : ◌≡◌ {A = ℕ} 0 1 = cc in omega arith)
-      by on (wrong k) f g = absurd (let z : ◌≡◌ {A = ℕ} 0 1 = cc in omega arith)
+      by on many f g = cc
+      by on (wrong k) f g = cc
 
 -- the areas that a sound list reaches are on the device
 module _ (z : Sizes) (size : ChunkSize) (es : List Exception) (shape : well_shaped z (sectors size) ≡ true) (sound : Sound (shape_of z size) es) where

@@ -78,7 +78,7 @@ roomy c chunks es p is = go (has_room entries_at_most c chunks (length es) (next
         let parts = and_parts (ltb (next_place c es) chunks) _ h in
         let rest = and_parts (not (fills_area c (length es) && not (ltb (area_chunk c (length es / per_area c + 1)) chunks))) (not (eqb (length es) entries_at_most)) parts.1 in
         record { same = same; place = subst (λ q. q < chunks) same (ltb-true _ _ parts.0); next_area = not-true _ rest.0; few = eqb-false _ _ (not-true _ rest.1) }
-    go false h e = absurd (let z : ◌≡◌ {A = ℕ} 0 1 = cc in omega arith)
+    go false h e = cc
 
 module _ (s : Shape) (es : List Exception) (old p : ℕ) (ok : Sound s es) (absent : has_old es old ≡ false) (here : old < s.olds) (r : Roomy (width s) s.chunks es p) where
   -- an entry that fills its area has a next one

@@ -15,7 +15,7 @@ use Rattle.store.specs.Refusals.{StoreRefusal, up, doing}
 use Rattle.store.specs.Scanning.{Parsed, full, over, many, wrong, parsed, Ending, concluded, most_areas, scanning}
 use Rattle.store.specs.Steps.{Contents, shape_of, cleaning, loading, heading, opening}
 use Rattle.recovery.specs.Readings.{Image, image, gathered, area_bytes, scanned, next, found, OpeningFinds, OpeningRefused}
-use Rattle.recovery.proofs.Calls.{Did, went, broke, did, never_good}
+use Rattle.recovery.proofs.Calls.{Did, went, broke, did}
 use Rattle.recovery.proofs.Gone.{Gone, refused_gone, left_gone}
 
 -- an answer x that leaves e: what is due, with no change, or a refusal of the device, which changes no sector; it is gone
@@ -208,14 +208,14 @@ opening_refused z d e t f no_list r = by (outcome z d e t r)
     by : Outcome z d t e → e.cells ≡ d.cells
     by (unread r is same gone) = same
     by (declined g is answer same) = ap (λ y. y.cells) same
-    by (ran size x head scan h) = never_good (sym (found_by z (image d) size (good x) head scan) ∙ no_list)
+    by (ran size x head scan h) = cc (found_by z (image d) size (good x) head scan)
 
 -- an opening that is good answers what is found
 pub good_finds : (z : Sizes) (d e : Disk) (c : Contents) → Runs one (opening z 8192) d (good c) e → found z (image d) ≡ good c
 good_finds z d e c r = by (outcome z d e (good c) r)
   where
     by : Outcome z d (good c) e → found z (image d) ≡ good c
-    by (unread f is same gone) = never_good is
-    by (declined f none is same) = never_good is
+    by (unread f is same gone) = cc
+    by (declined f none is same) = cc
     by (ran size x head scan (went run is)) = found_by z (image d) size (good x) head scan ∙ sym is
-    by (ran size x head scan (broke f run is)) = never_good is
+    by (ran size x head scan (broke f run is)) = cc

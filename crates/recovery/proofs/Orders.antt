@@ -1,5 +1,5 @@
 -- Entering writes its entry only once all data lasts.
-use Rattle.std.proofs.Common.{◌≡◌, ℕ, ◌+◌, ◌/◌, Bool, true, false, ◌⊎◌, length, sym, refl, ◌∙◌, subst, inl, inr, arith}
+use Rattle.std.proofs.Common.{◌≡◌, ℕ, ◌+◌, ◌/◌, Bool, true, false, ◌⊎◌, length, sym, refl, ◌∙◌, subst, inl, inr}
 use Rattle.std.specs.List.{ContainsAt as Has}
 use Rattle.device.specs.Disk.{Bytes, Disk, Fate, possibilities, flushes, passes, leaves, stands as power, settled, Told, good, refused, Refusal}
 use Rattle.device.specs.Plans.{Runs, one, Steps, onward}
@@ -21,7 +21,7 @@ use Rattle.recovery.proofs.Keeps.{quiet_keeps, preparing_quiet, entry_quiet}
 -- a device that is gone passes no flush
 flush_on : (on : Bool) (f : Fate) → power flushes on f ≡ passes → on ≡ true
 flush_on true f is = refl
-flush_on false f is = absurd (let z : ◌≡◌ {A = ℕ} 0 1 = cc in omega arith)
+flush_on false f is = cc
 
 pub entering_order : EnteringOrder
 entering_order z size es x d e t stands listed r =

@@ -97,9 +97,6 @@ cleaning_ends c x {d} {e} {t} on long inside r =
 
 -- OPENING
 
-same_refusal : {f g : Refusal} → ◌≡◌ {A = Told Refusal (Unit {0})} (refused f) (refused g) → f ≡ g
-same_refusal h = cc
-
 pub opening_answers : OpeningAnswers
 opening_answers z d e t same some long r = by (outcome z d e t r)
   where
@@ -117,7 +114,7 @@ opening_answers z d e t same some long r = by (outcome z d e t r)
 
     cleans : (size : ChunkSize) (x : Ending) → found z (image d) ≡ good (record { size = size; table = x.table }) → Known z size x.table d x → Did {A = Contents} (cleaning (sectors size) x) (record { size = size; table = x.table }) t d e → Answer
     cleans size x is k (went run answer) = ⊎_elim (λ g. inl (answer ∙ sym is, g.1)) (λ g. not_good g.1) (ends size x k (good tt) run)
-    cleans size x is k (broke f run answer) = ⊎_elim (λ g. not_good (sym g.0)) (λ g. gone_says f answer (subst (λ y. Gone y e) (same_refusal (sym g.1)) g.2)) (ends size x k (refused f) run)
+    cleans size x is k (broke f run answer) = ⊎_elim (λ g. not_good (sym g.0)) (λ g. let same : g.0 ≡ f = cc in gone_says f answer (subst (λ y. Gone y e) same g.2)) (ends size x k (refused f) run)
 
     by : Outcome z d t e → Answer
     by (unread f is cells gone) = gone_says f is (gone (reached z d same some))

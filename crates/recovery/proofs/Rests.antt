@@ -20,7 +20,7 @@ use Rattle.recovery.specs.Readings.{Image, image, area_bytes}
 use Rattle.recovery.specs.Standing.{Standing}
 use Rattle.recovery.specs.Breaks.{OpeningStanding}
 use Rattle.recovery.proofs.Again.{end_of}
-use Rattle.recovery.proofs.Calls.{went, broke}
+use Rattle.recovery.proofs.Calls.{did_run}
 use Rattle.recovery.proofs.Cleans.{Parts, parts, Opened, unread, cleaned, opened}
 use Rattle.recovery.proofs.Learns.{learnt_none, scanned_fine}
 use Rattle.recovery.proofs.Sheets.{length_pic, length_area, sector_of_area}
@@ -89,5 +89,4 @@ opening_standing z size es d e t stands r = by (opened z size x d p.head p.scan 
 
     by : Opened z size x t d e → e.cells ≡ d.cells
     by (unread f is same) = same
-    by (cleaned (went run is)) = rests run
-    by (cleaned (broke f run is)) = rests run
+    by (cleaned h) = rests (did_run h).1

@@ -22,7 +22,7 @@ use Rattle.recovery.specs.Holding.{Sound}
 use Rattle.recovery.specs.Standing.{ValidHeader, Standing, Stands}
 use Rattle.recovery.specs.Breaks.{Sure, OpeningStands, LegibleStands}
 use Rattle.recovery.proofs.Again.{End}
-use Rattle.recovery.proofs.Calls.{Did, went, broke, never_good}
+use Rattle.recovery.proofs.Calls.{Did, went, broke}
 use Rattle.recovery.proofs.Cleans.{Parts, parts, known, Opened, unread, cleaned as ran_cleaning, opened}
 use Rattle.recovery.proofs.Finds.{sectors_within}
 use Rattle.recovery.proofs.Learns.{Learnt}
@@ -185,7 +185,7 @@ legible_stands z size es d e low few same sure small r =
     m = image d
 
     ready : (p : Parts z size es m) → Did {A = Contents} (cleaning (sectors size) p.ending) (record { size = size; table = p.ending.table }) (good (record { size = size; table = es })) d e → Stands z size es e
-    ready p (broke f run is) = never_good is
+    ready p (broke f run is) = cc
     ready p (went run is) =
         let s = shape_of z size in
         let x = p.ending in
@@ -200,7 +200,7 @@ legible_stands z size es d e low few same sure small r =
         }
 
     by : (p : Parts z size es m) → Opened z size p.ending (good (record { size = size; table = es })) d e → Stands z size es e
-    by p (unread f is same) = never_good is
+    by p (unread f is same) = cc
     by p (ran_cleaning h) = ready p h
 
 pub opening_stands : OpeningStands
