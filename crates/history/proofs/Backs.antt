@@ -26,7 +26,7 @@ use Rattle.history.proofs.Invariant.{Fewer, fewer_refl}
 use Rattle.history.proofs.Moves.{part, Gains}
 use Rattle.history.proofs.Partly.{table_length}
 use Rattle.history.proofs.Placing.{placed_drop, has_chunk_more}
-use Rattle.history.proofs.Sides.{Live, FewerBoth, WentOff, live, ReadBoth, reads_good, reads_off, reads_chunk, SpreadBoth, spreads_good, spreads_off, spreads_side, not_both, off_as}
+use Rattle.history.proofs.Sides.{Live, FewerBoth, WentOff, live, ReadBoth, reads_good, reads_off, reads_chunk, SpreadBoth, spreads_good, spreads_off, spreads_side, off_as}
 use Rattle.history.proofs.Splits.{Then, stopped, went_on, then_parts}
 use Rattle.history.proofs.Spots.{reads_copy}
 use Rattle.history.proofs.Tables.{found_append, listed_lookup, item_lookup}
@@ -59,12 +59,12 @@ reads_then {B} x n s k {m} {e} {t} l inside r = by (then_parts (at_side x (gathe
     want = gathered (image (side x m)) s n []
 
     ended : (f : Fault) → t ≡ refused f → ReadBoth m want (refused f) e → (WentOff t e × FewerBoth m e) ⊎ Runs both (k want) m t e
-    ended f is (reads_good wrong same) = not_both (sym wrong)
+    ended f is (reads_good wrong same) = cc
     ended f is (reads_off off few) = inl (off_as is off, few)
 
     goes : (a : Bytes) (mid : Disks) → Runs both (k a) mid t e → ReadBoth m want (good a) mid → (WentOff t e × FewerBoth m e) ⊎ Runs both (k want) m t e
     goes a mid q (reads_good is same) = let bytes : a ≡ want = cc in inr (subst (λ y. Runs both (k want) y t e) same (subst (λ b. Runs both (k b) mid t e) bytes q))
-    goes a mid q (reads_off off few) = not_both off.told
+    goes a mid q (reads_off off few) = cc
 
     by : Then (at_side x (gathering s n [])) k m t e → (WentOff t e × FewerBoth m e) ⊎ Runs both (k want) m t e
     by (stopped f q is) = ended f is (reads_chunk x n s l inside q)
@@ -169,12 +169,12 @@ module _ (p : Plain) (d : Disks) (v : p.void ≡ false) (up : Up p (serving p.ch
         spreads z = spreads_side origin c (k * c) bytes before.live on.0 (length_gathered (image m.cow) c (q * c) long) z
 
         ended : (f : Fault) → t ≡ refused f → SpreadBoth origin m (k * c) c bytes (refused f) e → Result
-        ended f is (spreads_good w wrong left a b here else gains) = not_both (sym wrong)
+        ended f is (spreads_good w wrong left a b here else gains) = cc
         ended f is (spreads_off w off left gains) = inl (off_as is off, subst (λ y. Fewer d.cow y.cow) (sym left) (subst (Fewer d.cow) (sym before.cow) fewer_refl), subst (λ y. May p (js ++ (k ∷ [])) y.origin) (sym left) (gains_may w gains))
 
         goes : {mid : Disks} → sizes mid ≡ sizes m → Runs both more mid t e → SpreadBoth origin m (k * c) c bytes (good tt) mid → Result
         goes {mid} size rest (spreads_good w is left a b here else gains) = inr (mid, copied_one w left size a b here else gains, rest)
-        goes size rest (spreads_off w off left gains) = not_both off.told
+        goes size rest (spreads_off w off left gains) = cc
 
         by : Then (at_side origin (spreading (k * c) c bytes)) (λ _. more) m t e → Result
         by (stopped f z is) = ended f is (spreads z)

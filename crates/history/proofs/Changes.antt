@@ -1,5 +1,5 @@
 -- One sector written, on the devices and on the machine's disks.
-use Rattle.std.proofs.Common.{◌≡◌, ℕ, ◌<◌, true, false, eqb, [], ◌∷◌, Some, None, Option, sym, refl, ap, ◌∙◌, subst, ⊎_elim, arith}
+use Rattle.std.proofs.Common.{◌≡◌, ℕ, ◌<◌, true, false, eqb, [], ◌∷◌, Some, None, Option, sym, refl, ap, ◌∙◌, subst, ⊎_elim}
 use Rattle.std.specs.List.{ContainsAt as Has}
 use Rattle.std.proofs.ByRecursion.{has_push, has_append_left, has_append_right}
 use Rattle.std.proofs.lemmas.Bool.{eq-eqb, ne_eqb, cond-true, cond-false, cases_eq, true≢false, and_from}
@@ -126,8 +126,7 @@ module _ (p : Plain) (d : Disks) (w : Disk) (s : ℕ) (b : Bytes) (same : w.coun
             elim_copy : (k : ℕ) × (lookup (table_of p) (chunk_of p s) ≡ Some k) → ⊥
             elim_copy k =
                 let both : ◌≡◌ {A = Option ℕ} None (Some k.0) = sym none ∙ ap (λ u. lookup (table_of p) (chunk_of p u)) is ∙ k.1 in
-                let z : ◌≡◌ {A = ℕ} 0 1 = cc in
-                omega arith
+                cc
 
     pub shared_agrees : lookup (table_of p) (chunk_of p s) ≡ None → Agrees (on_origin (added b) s (on_view (added b) s p)) (with_side origin d w)
     shared_agrees none = record {

@@ -101,7 +101,7 @@ module _ (p : Plain) (s k : ℕ) (out : diverged_at p s ≡ false) (free : room 
       let is = sym (room_placed p.chunk entries_at_most (p.size.cow / sectors p.chunk) p.diverged) ∙ free in
       ⊎_elim
       (λ can. let e : ◌≡◌ {A = Option ℕ} (Some _) (Some k) = sym (cond-true (can_diverge p) _ _ can) ∙ is in (can, cc))
-      (λ cannot. absurd (let e : ◌≡◌ {A = Option ℕ} None (Some k) = sym (cond-false (can_diverge p) _ _ cannot) ∙ is in let z : ◌≡◌ {A = ℕ} 0 1 = cc in omega arith))
+      (λ cannot. let e : ◌≡◌ {A = Option ℕ} None (Some k) = sym (cond-false (can_diverge p) _ _ cannot) ∙ is in cc)
       (cases_Bool (can_diverge p))
 
   pub parted_table : table_of (parted p s) ≡ more (table_of p) (record { old = chunk_of p s; new = k })

@@ -1,5 +1,5 @@
 -- The last run leaves the list of the COW device.
-use Rattle.std.proofs.Common.{◌≡◌, ℕ, zero, suc, ◌+◌, ◌-◌, ◌*◌, ◌/◌, ◌%◌, ◌<◌, ◌≤◌, true, false, List, [], ◌∷◌, length, take, sym, ap, ◌∙◌, subst, mod-lt, mul_assoc, arith}
+use Rattle.std.proofs.Common.{◌≡◌, ℕ, zero, suc, ◌+◌, ◌-◌, ◌*◌, ◌/◌, ◌%◌, ◌<◌, ◌≤◌, true, false, List, [], ◌∷◌, length, sym, ap, ◌∙◌, subst, mod-lt, mul_assoc, arith}
 use Rattle.device.specs.Disk.{Disk, writes, flushes, Told, good, refused, Refusal, refusal, Cut}
 use Rattle.device.specs.Plans.{Runs, one, both, cow, Disks, with_side, raised}
 use Rattle.layout.specs.declared.chunk.ChunkSize.{ChunkSize}
@@ -81,10 +81,10 @@ drops z size (x ∷ xs) {d} {e} {t} some same l stands r = by (did (dropping c l
 
     good_drop : a.answer ≡ good left → Fared {A = Unit {0}} (good tt) a.disk → Dropped z size es d t e
     good_drop is (fine u same up_on long) = drops_good a.disk (a.told ∙ ap (raised store_up) is) a.left up_on (drop_stands z size es left d.cow a.disk stands (subst (λ y. Runs one (drop_run c es) d.cow y a.disk) is a.ran)) data_kept
-    good_drop is (lost q wrong off) = absurd (let y : ◌≡◌ {A = ℕ} 0 1 = cc in omega arith)
+    good_drop is (lost q wrong off) = cc
 
     broken_drop : (f : Refusal) → a.answer ≡ refused (up f) → Fared {A = Unit {0}} (refused f) a.disk → Dropped z size es d t e
-    broken_drop f is (fine u wrong up_on long) = absurd (let y : ◌≡◌ {A = ℕ} 0 1 = cc in omega arith)
+    broken_drop f is (fine u wrong up_on long) = cc
     broken_drop f is (lost q lost_is off) =
         let three_is : f ≡ refusal 3 q = cc in
         drops_off a.disk

@@ -1,5 +1,5 @@
 -- A copied chunk entered in the list: good, or broken off.
-use Rattle.std.proofs.Common.{◌≡◌, ℕ, ◌+◌, ◌/◌, ◌%◌, ◌^◌, ◌<◌, true, false, not, ◌||◌, eqb, ltb, ◌⊎◌, List, [], length, Some, None, Option, sym, refl, ap, ◌∙◌, subst, inl, inr, ⊎_elim, arith}
+use Rattle.std.proofs.Common.{◌≡◌, ℕ, ◌+◌, ◌/◌, ◌%◌, ◌^◌, ◌<◌, true, false, not, ◌||◌, eqb, ltb, ◌⊎◌, List, [], length, Some, None, Option, sym, refl, ap, ◌∙◌, subst, inl, inr, ⊎_elim}
 use Rattle.std.specs.List.{ContainsAt as Has}
 use Rattle.std.proofs.lemmas.Bool.{cases_eq, and_from, and_parts, eqb-true, or_from, lt-ltb, not_from_true, cond-false, true≢false}
 use Rattle.device.specs.Disk.{Bytes, Disk, possibilities, Told, good, refused, Refusal, refusal}
@@ -205,10 +205,10 @@ module _ (p : Plain) (valid : p.void ≡ false) (d : Disks) (st : Up p (serving 
       good_by run is (fine u told on long) =
           entered_good (a.told ∙ ap (raised store_up) is ∙ ap good (sym (parted_table p s k out free)))
           (subst (Up (parted p s) _) (sym a.left) (entered_up a.disk run on (subst Wholes a.left (wholes_stay r st.whole))))
-      good_by run is (lost q told off) = absurd (let z : ◌≡◌ {A = ℕ} 0 1 = cc in omega arith)
+      good_by run is (lost q told off) = cc
 
       off_by : (f : Refusal) → Runs one (entering (sectors p.chunk) longer (length (table_of p))) d.cow (refused f) a.disk → a.answer ≡ refused (up f) → Fared {A = Unit {0}} (refused f) a.disk → EnteredBoth t e
-      off_by f run is (fine u told on long) = absurd (let z : ◌≡◌ {A = ℕ} 0 1 = cc in omega arith)
+      off_by f run is (fine u told on long) = cc
       off_by f run is (lost q told off) =
           let three : f ≡ refusal 3 q = cc in
           entered_off

@@ -1,5 +1,5 @@
 -- The store's steps name sectors of its device.
-use Rattle.std.proofs.Common.{◌≡◌, ℕ, ◌+◌, ◌*◌, ◌/◌, ◌%◌, ◌<◌, ◌≤◌, Bool, true, false, not, ◌&&◌, ltb, List, length, replicate, Some, None, Option, sym, refl, ap, ◌∙◌, ⊎_elim, mul-le-mul_right, mod-lt, mul_assoc, mul_comm, le-div_iff_mul-le, mul-one, mul-add, arith}
+use Rattle.std.proofs.Common.{◌≡◌, ℕ, ◌+◌, ◌*◌, ◌/◌, ◌%◌, ◌<◌, ◌≤◌, Bool, true, false, not, ◌&&◌, ltb, List, length, replicate, Some, None, sym, refl, ap, ◌∙◌, ⊎_elim, mul-le-mul_right, mod-lt, mul_assoc, mul_comm, le-div_iff_mul-le, mul-one, mul-add, arith}
 use native.Mathlib.Nat.{div-add-mod}
 use Rattle.std.proofs.lemmas.Bool.{cases_Bool, and_parts, not-false, not-true, ltb-true, cond-false}
 use Rattle.device.specs.Disk.{Bytes, writes, flushes}
@@ -62,7 +62,7 @@ room_area limit c chunks es p is fills =
     let rest = (and_parts (ltb (next_place c es) chunks) _ has).1 in
     let area = (and_parts (not (fills_area c (length es) && not (ltb (area_chunk c (length es / per_area c + 1)) chunks))) _ rest).0 in
     ltb-true _ _ (not-false _ (sym (ap (λ b. b && not (ltb (area_chunk c (length es / per_area c + 1)) chunks)) fills) ∙ not-true _ area)))
-    (λ none. absurd (let z : ◌≡◌ {A = Option ℕ} None (Some p) = sym (cond-false (has_room limit c chunks (length es) (next_place c es)) _ _ none) ∙ is in let o : ◌≡◌ {A = ℕ} 0 1 = cc in omega arith))
+    (λ none. cc (cond-false (has_room limit c chunks (length es) (next_place c es)) (Some (next_place c es)) None none))
     (cases_Bool (has_room limit c chunks (length es) (next_place c es)))
 
 -- a chunk that is on a device, sector by sector

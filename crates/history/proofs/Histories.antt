@@ -111,7 +111,7 @@ KeptBy h m = Kept h m.plain (cut_short m.plain m.pending)
 -- a machine with nothing under way has both devices on
 pub while_idle : {m : Machine} {w : Situation} → m.pending ≡ None → Inv m w → On m w
 while_idle idle (inl on) = on
-while_idle idle (inr off) = let waits = off.waits in absurd (let z : ◌≡◌ {A = ℕ} 0 1 = cc in omega arith)
+while_idle idle (inr off) = cc
 
 pub idle_has : {w : Situation} (m : Machine) → On m w → Has (cut_short m.plain m.pending) m.plain
 idle_has m on = subst (λ o. Has (cut_short m.plain o) m.plain) (sym on.idle) (one_has m.plain)

@@ -6,7 +6,7 @@ use Rattle.std.proofs.ByRecursion.{has_push, has_append_left}
 use Rattle.std.proofs.lemmas.List.{drop_all, take_all, get_or-map, length-take-le}
 use Rattle.std.proofs.lemmas.Bool.{both_ways, cases_Bool, cases_lt, and_from}
 use Rattle.device.specs.Disk.{Bytes, Disk, possibilities, settled, flushes, Told, good, refused, Refusal, Cut}
-use Rattle.device.specs.Plans.{Plan, done, Runs, one, both, Side, origin, Disks, pair, with_side, then, raised}
+use Rattle.device.specs.Plans.{Plan, done, Runs, one, both, Side, origin, Disks, pair, with_side, then}
 use Rattle.device.proofs.Possible.{last_has}
 use Rattle.device.specs.Sectors.{only}
 use Rattle.device.proofs.Uses.{Went, went_on as passed, left_in, was_refused, went, over as run_over}
@@ -29,7 +29,7 @@ use Rattle.history.proofs.Droppings.{Dropped, drops_good, drops_off, drops}
 use Rattle.history.proofs.Ends.{Up, Down, Ends, good_end, off_end, down_by}
 use Rattle.history.proofs.Invariant.{Wholes, Fewer, fewer_chosen, cut_fewer}
 use Rattle.history.proofs.Partly.{table_length, run_few, among_last, none_last, Back, left_in_run, CopiesKept, partly_covers, WholeRun, partly_up}
-use Rattle.history.proofs.Sides.{WentOff, FlushBoth, flushes_good, flushes_off, flushes_side, not_both, off_as}
+use Rattle.history.proofs.Sides.{WentOff, FlushBoth, flushes_good, flushes_off, flushes_side, off_as}
 use Rattle.history.proofs.Splits.{Then, stopped, went_on, After, then_parts, after_parts, At, at_one, at_store, called_parts}
 use Rattle.history.proofs.Standings.{stands_lists, in_copy_data, single_choice}
 use Rattle.history.proofs.Tables.{listed_lookup}
@@ -162,12 +162,12 @@ module _ (p : Plain) (d : Disks) (k : ℕ) (v : p.void ≡ false) (up : Up p (se
     flush_comes {m} before q = by (then_parts (flush origin) (λ _. in_store (drop_run c (table_of p))) q)
       where
         ended : (f : Fault) → t ≡ refused f → FlushBoth origin m (refused f) e → Came t e
-        ended f is (flushes_good wrong same) = not_both (sym wrong)
+        ended f is (flushes_good wrong same) = cc
         ended f is (flushes_off off few) = came_off (off_as is off) (off_early whole size off.gone (subst (λ y. Fewer y e.cow) before.cow few.cow) (λ s b l has. before.possible s b l (few.origin.possible s b has)))
 
         goes : (b : Bytes) (mid : Disks) → Runs both (in_store (drop_run c (table_of p))) mid t e → FlushBoth origin m (good b) mid → Came t e
         goes b mid rest (flushes_good is same) = drop_comes before (subst (λ y. Runs both (in_store (drop_run c (table_of p))) y t e) same rest)
-        goes b mid rest (flushes_off off few) = not_both off.told
+        goes b mid rest (flushes_off off few) = cc
 
         by : Then (flush origin) (λ _. in_store (drop_run c (table_of p))) m t e → Came t e
         by (stopped f z is) = ended f is (flushes_side origin before.live z)
@@ -178,12 +178,12 @@ module _ (p : Plain) (d : Disks) (k : ℕ) (v : p.void ≡ false) (up : Up p (se
     steps_come q = by (then_parts (copying_back (ground d) p.chunk (the_run c (table_of p))) (λ _. then (flush origin) (λ _. in_store (drop_run c (table_of p)))) q)
       where
         ended : (f : Fault) → t ≡ refused f → Copying p (drop left p.diverged) d (refused f) e → Came t e
-        ended f is (copied_all wrong x) = not_both (sym wrong)
+        ended f is (copied_all wrong x) = cc
         ended f is (copied_off off few may) = came_off (off_as is off) (off_early whole size off.gone few may)
 
         goes : (mid : Disks) → Runs both (then (flush origin) (λ _. in_store (drop_run c (table_of p)))) mid t e → Copying p (drop left p.diverged) d (good tt) mid → Came t e
         goes mid rest (copied_all is x) = flush_comes x rest
-        goes mid rest (copied_off off few may) = not_both off.told
+        goes mid rest (copied_off off few may) = cc
 
         by : Then (copying_back (ground d) p.chunk (the_run c (table_of p))) (λ _. then (flush origin) (λ _. in_store (drop_run c (table_of p)))) d t e → Came t e
         by (stopped f z is) = ended f is (run_back p d v up z)
@@ -238,7 +238,7 @@ module _ (p : Plain) (d : Disks) (k : ℕ) (v : p.void ≡ false) (up : Up p (se
       comes z = steps_come some (wholes_stay z up.whole) (sizes_stay z ∙ up.agrees.sectors) z
 
       ended : (f : Fault) → o ≡ record { answer = refused f; memory = serving p.chunk (table_of p) } → Came (refused f) e → Ends p (step_merge k) (good (merged r left)) (replied told_merged o.answer) o.memory e
-      ended f o_is (came_all wrong x) = not_both (sym wrong)
+      ended f o_is (came_all wrong x) = cc
       ended f o_is (came_off off down) =
           let h = off.told in
           let same : f ≡ off.fault = cc in
@@ -249,7 +249,7 @@ module _ (p : Plain) (d : Disks) (k : ℕ) (v : p.void ≡ false) (up : Up p (se
           let y = run_over rest in
           let list : l ≡ kept = cc in
           good_step (y.0 ∙ ap (λ es. record { answer = good (merged_by p.chunk (table_of p)); memory = serving p.chunk es }) list) (subst Wholes (sym y.1) whole) (subst (WholeRun p r d) (sym y.1) x)
-      goes l mid rest (came_off off down) whole = not_both off.told
+      goes l mid rest (came_off off down) whole = cc
 
       by : After (serving p.chunk (table_of p)) steps gives d o e → Ends p (step_merge k) (good (merged r left)) (replied told_merged o.answer) o.memory e
       by (stopped f z o_is) = ended f o_is (comes z)
@@ -271,18 +271,18 @@ flush_single {A} q {d} {e} {x} z = by (then_parts (flush origin) (λ _. in_store
   where
     settles : {b : Bytes} {mid : Disks} (a : At Refusal Bytes origin (only_call flushes) (passed_up origin) d (good b) mid) → Went {B = Bytes} one tt flushes (λ b. done (good b)) d.origin a.answer a.disk → Single mid.origin
     settles a (passed f is y) s = ap (λ u. (u.origin.cells s).older) a.left ∙ ap (λ u. (u.cells s).older) (run_over y).1
-    settles a (left_in f is y u) s = not_both (a.told ∙ ap (raised (passed_up origin)) y)
-    settles a (was_refused f m n is y u) s = not_both (a.told ∙ ap (raised (passed_up origin)) y)
+    settles a (left_in f is y u) s = cc a.told
+    settles a (was_refused f m n is y u) s = cc a.told
 
     by : Then (flush origin) (λ _. in_store q) d (good x) e → Single e.origin
-    by (stopped f y is) = not_both is
+    by (stopped f y is) = cc
     by (went_on b mid y rest) =
         let a = at_one origin (only_call flushes) y in
         λ s. ap (λ u. (u.origin.cells s).older) (at_store q rest).left ∙ settles a (went a.ran) s
 
 module _ (o : Outcome Merged) (d e : Disks) (r : ℕ) (some : 0 < r) (is : good (merged r 0) ≡ replied told_merged o.answer) where
   wrong : {X : Type 0} {f : Fault} {m : Memory} → o ≡ record { answer = refused f; memory = m } → X
-  wrong o_is = absurd (let h = ap (λ y. replied told_merged y.answer) o_is in let z : ◌≡◌ {A = ℕ} 0 1 = cc in omega arith)
+  wrong o_is = cc (ap (λ y. replied told_merged y.answer) o_is)
 
   steps_flush : (size : ChunkSize) (es : List Exception) → Runs both (run_merging (ground d) size es) d o e → Single e.origin
   steps_flush size es q = by (after_parts (serving size es) steps gives q)
@@ -300,7 +300,7 @@ module _ (o : Outcome Merged) (d e : Disks) (r : ℕ) (some : 0 < r) (is : good 
       gives l = giving (serving size l) (merged_by size es)
 
       good_steps : {l : List Exception} {mid : Disks} → Then (copying_back (ground d) size (the_run c es)) (λ _. rest) d (good l) mid → Single mid.origin
-      good_steps (stopped f z is) = not_both is
+      good_steps (stopped f z is) = cc
       good_steps (went_on u mid z y) = flush_single (drop_run c es) y
 
       by : After (serving size es) steps gives d o e → Single e.origin

@@ -1,5 +1,5 @@
 -- Origin writes of an open pair.
-use Rattle.std.proofs.Common.{◌≡◌, ℕ, ◌/◌, ◌<◌, Bool, true, false, cond, not, ◌&&◌, ◌||◌, ◌⊎◌, List, [], ◌∷◌, length, Some, None, Option, sym, refl, ap, ◌∙◌, subst, inl, inr, ⊎_elim, arith}
+use Rattle.std.proofs.Common.{◌≡◌, ℕ, ◌/◌, ◌<◌, Bool, true, false, cond, not, ◌&&◌, ◌||◌, ◌⊎◌, List, [], ◌∷◌, length, Some, None, Option, sym, refl, ap, ◌∙◌, subst, inl, inr, ⊎_elim}
 use Rattle.std.specs.List.{ContainsAt as Has}
 use Rattle.std.proofs.ByRecursion.{has_push, has_append_left}
 use Rattle.std.proofs.lemmas.Bool.{cases_Bool, or_from, or_left, or_right, cond-true, cond-false, true≢false}
@@ -20,7 +20,7 @@ use Rattle.history.proofs.Invariant.{Covers, Wholes, CutBoth}
 use Rattle.history.proofs.Parting.{Parts, parts_good, parts_off, parts}
 use Rattle.history.proofs.Placing.{room_placed}
 use Rattle.history.proofs.Putting.{Puts, wrote, fell, origin_puts}
-use Rattle.history.proofs.Sides.{WentOff, not_both}
+use Rattle.history.proofs.Sides.{WentOff}
 use Rattle.history.proofs.Splits.{After, after_parts}
 use Rattle.history.proofs.Spoiling.{Spoils, spoils_good, spoils_off, spoils}
 use Rattle.history.proofs.Spots.{uncopied, copy_diverged}
@@ -28,19 +28,16 @@ use Rattle.history.proofs.Wholes.{wholes_stay, sizes_stay}
 
 -- ROOM
 
-never_some : {X : Type 0} {k : ℕ} → ◌≡◌ {A = Option ℕ} None (Some k) → X
-never_some e = absurd (let z : ◌≡◌ {A = ℕ} 0 1 = cc in omega arith)
-
 -- there is a place exactly if one more chunk may diverge
 pub place_can : (p : Plain) (k : ℕ) → room entries_at_most (sectors p.chunk) (p.size.cow / sectors p.chunk) (table_of p) ≡ Some k → can_diverge p ≡ true
 place_can p k is =
     let by_count = sym (room_placed p.chunk entries_at_most (p.size.cow / sectors p.chunk) p.diverged) ∙ is in
-    ⊎_elim (λ can. can) (λ cannot. never_some (sym (cond-false (can_diverge p) _ _ cannot) ∙ by_count)) (cases_Bool (can_diverge p))
+    ⊎_elim (λ can. can) (λ cannot. let none : ◌≡◌ {A = Option ℕ} None (Some k) = sym (cond-false (can_diverge p) _ _ cannot) ∙ by_count in cc) (cases_Bool (can_diverge p))
 
 pub no_place_cannot : (p : Plain) → room entries_at_most (sectors p.chunk) (p.size.cow / sectors p.chunk) (table_of p) ≡ None → can_diverge p ≡ false
 no_place_cannot p is =
     let by_count = sym (room_placed p.chunk entries_at_most (p.size.cow / sectors p.chunk) p.diverged) ∙ is in
-    ⊎_elim (λ can. never_some (sym by_count ∙ cond-true (can_diverge p) _ _ can)) (λ cannot. cannot) (cases_Bool (can_diverge p))
+    ⊎_elim (λ can. let some : ◌≡◌ {A = Option ℕ} None (Some _) = sym by_count ∙ cond-true (can_diverge p) _ _ can in cc) (λ cannot. cannot) (cases_Bool (can_diverge p))
 
 -- the first and the second of two
 pub first_of : {X : Type 0} (x y : X) → Has (x ∷ y ∷ []) x
@@ -133,7 +130,7 @@ module _ (p : Plain) (d : Disks) (s : ℕ) (b : Bytes) (k : ℕ) (here : s < p.s
         Without = Ends p (write_origin s b k) (good (became_invalid false)) (replied became_invalid o.answer) o.memory e
 
         off_by : (f : Fault) → o ≡ record { answer = refused f; memory = serving p.chunk (table_of p) } → Parts p valid d up s here out place free (refused f) e → Without
-        off_by f is (parts_good told u) = not_both (sym told)
+        off_by f is (parts_good told u) = cc
         off_by f is (parts_off off survives) =
             off_two p d up e became_invalid o (wholes_stay r up.whole) (sizes_stay r) (write_origin s b k) (good (became_invalid false)) (serving p.chunk (table_of p)) (on_origin (perhaps b) s (parted p s)) first_one (second (parted p s) same) off is
             (λ x cut. ⊎_elim inl (λ c. inr (wider_origin (parted p s) x s b div c)) (survives x cut))
@@ -144,7 +141,7 @@ module _ (p : Plain) (d : Disks) (s : ℕ) (b : Bytes) (k : ℕ) (here : s < p.s
             ends_by p d up e became_invalid o (wholes_stay r up.whole) (sizes_stay r) (write_origin s b k) false (serving p.chunk (table_of (parted p s))) (on_origin (added b) s (parted p s)) (on_origin (perhaps b) s (parted p s))
             (ap (on_origin (added b) s) same) (second (parted p s) same)
             (origin_puts false (parted p s) mid _ u s b here long div o e (subst (λ l. Runs both (origin_put (serving p.chunk l) s b false) mid o e) is rest))
-        good_by more mid rest (parts_off off survives) = not_both off.told
+        good_by more mid rest (parts_off off survives) = cc
 
         by : After (serving p.chunk (table_of p)) (copying (ground d) p.chunk (table_of p) (chunk_of p s) place) (λ more. origin_put (serving p.chunk more) s b false) d o e → Without
         by (After.stopped f run is) = off_by f is (parts p valid d up s here out place free run)
@@ -167,7 +164,7 @@ module _ (p : Plain) (d : Disks) (s : ℕ) (b : Bytes) (k : ℕ) (here : s < p.s
         With = Ends p (write_origin s b k) (good (became_invalid true)) (replied became_invalid o.answer) o.memory e
 
         off_by : (f : Fault) → o ≡ record { answer = refused f; memory = serving p.chunk (table_of p) } → Spoils p valid d up (refused f) e → With
-        off_by f is (spoils_good told u) = not_both (sym told)
+        off_by f is (spoils_good told u) = cc
         off_by f is (spoils_off off survives) =
             off_two p d up e became_invalid o (wholes_stay r up.whole) (sizes_stay r) (write_origin s b k) (good (became_invalid true)) (serving p.chunk (table_of p)) (on_origin (perhaps b) s (voided p)) first_one (second (voided p) same) off is
             (λ x cut. ⊎_elim inl (λ c. inr (wider_origin (voided p) x s b div c)) (survives x cut))
@@ -176,7 +173,7 @@ module _ (p : Plain) (d : Disks) (s : ℕ) (b : Bytes) (k : ℕ) (here : s < p.s
         good_by mid rest (spoils_good told u) =
             ends_by p d up e became_invalid o (wholes_stay r up.whole) (sizes_stay r) (write_origin s b k) true invalid (on_origin (added b) s (voided p)) (on_origin (perhaps b) s (voided p)) (ap (on_origin (added b) s) same) (second (voided p) same)
             (origin_puts true (voided p) mid invalid u s b here long div o e rest)
-        good_by mid rest (spoils_off off survives) = not_both off.told
+        good_by mid rest (spoils_off off survives) = cc
 
         by : After (serving p.chunk (table_of p)) (at_side cow (spoiling (sectors p.chunk))) (λ _. origin_put invalid s b true) d o e → With
         by (After.stopped f run is) = off_by f is (spoils p valid d up run)

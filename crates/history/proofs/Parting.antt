@@ -20,7 +20,7 @@ use Rattle.history.proofs.Gathered.{Long, length_gathered, part_gathered}
 use Rattle.history.proofs.Invariant.{Covers, Wholes, CutBoth, covers_fewer, cut_fewer}
 use Rattle.history.proofs.Moves.{part}
 use Rattle.history.proofs.Reading.{alive}
-use Rattle.history.proofs.Sides.{WentOff, ReadBoth, reads_good, reads_off, reads_chunk, SpreadBoth, spreads_good, spreads_off, spreads_side, not_both, off_as}
+use Rattle.history.proofs.Sides.{WentOff, ReadBoth, reads_good, reads_off, reads_chunk, SpreadBoth, spreads_good, spreads_off, spreads_side, off_as}
 use Rattle.history.proofs.Splits.{Then, then_parts}
 use Rattle.history.proofs.Tables.{room_free}
 use Rattle.history.proofs.Through.{at_data}
@@ -93,7 +93,7 @@ module _ (p : Plain) (valid : p.void ≡ false) (d : Disks) (up : Up p (serving 
       spread run = spreads_side cow (sectors p.chunk) (k * sectors p.chunk) bytes (alive p d _ up) place_here size_long run
 
       off_by : (f : Fault) → Runs both (at_side cow (spreading (k * sectors p.chunk) (sectors p.chunk) bytes)) d (refused f) e → t ≡ refused f → SpreadBoth cow d (k * sectors p.chunk) (sectors p.chunk) bytes (refused f) e → Parts t e
-      off_by f run is (spreads_good w told left on lng here' else gains) = not_both (sym told)
+      off_by f run is (spreads_good w told left on lng here' else gains) = cc
       off_by f run is (spreads_off w off left gains) = still (off_as is off) (subst (Covers p) (sym left) (free_covers p valid d _ up k place.0 place.2 bytes w (same_cow w left (sizes_stay run)) gains))
 
       good_by : (mid : Disks) → Runs both (at_side cow (spreading (k * sectors p.chunk) (sectors p.chunk) bytes)) d (good tt) mid → Runs both entering_plan mid t e → SpreadBoth cow d (k * sectors p.chunk) (sectors p.chunk) bytes (good tt) mid → Parts t e
@@ -102,7 +102,7 @@ module _ (p : Plain) (valid : p.void ≡ false) (d : Disks) (up : Up p (serving 
           let up₁ = free_up p valid d _ up k place.0 place.2 bytes w same gains else on (and_parts d.origin.on d.cow.on up.agrees.on).0 (subst Wholes left (wholes_stay run up.whole)) in
           let fill = filled w same there in
           by_entered w up₁ fill (entered_both p valid (with_side cow d w) up₁ s here out k free fill (with_sizes (subst (λ y. Runs both entering_plan y t e) left rest)))
-      good_by mid run rest (spreads_off w off left gains) = not_both off.told
+      good_by mid run rest (spreads_off w off left gains) = cc
 
       by : Then (at_side cow (spreading (k * sectors p.chunk) (sectors p.chunk) bytes)) (λ _. entering_plan) d t e → Parts t e
       by (Then.stopped f run is) = off_by f run is (spread run)
@@ -121,14 +121,14 @@ module _ (p : Plain) (valid : p.void ≡ false) (d : Disks) (up : Up p (serving 
       got run = reads_chunk origin (sectors p.chunk) (chunk_of p s * sectors p.chunk) (alive p d _ up) chunk_here run
 
       off_by : (f : Fault) → t ≡ refused f → ReadBoth d bytes (refused f) e → Parts t e
-      off_by f is (reads_good told same) = not_both (sym told)
+      off_by f is (reads_good told same) = cc
       off_by f is (reads_off off few) = still (off_as is off) (covers_fewer up.covers few.origin few.cow)
 
       good_by : (b : Bytes) (mid : Disks) → Runs both (writing_plan b) mid t e → ReadBoth d bytes (good b) mid → Parts t e
       good_by b mid rest (reads_good told same) =
           let is : b ≡ bytes = cc in
           writing_parts (subst (λ y. Runs both (writing_plan bytes) y t e) same (subst (λ x. Runs both (writing_plan x) mid t e) is rest))
-      good_by b mid rest (reads_off off few) = not_both off.told
+      good_by b mid rest (reads_off off few) = cc
 
       by : Then (at_side origin (gathering (chunk_of p s * sectors p.chunk) (sectors p.chunk) [])) writing_plan d t e → Parts t e
       by (Then.stopped f run is) = off_by f is (got run)

@@ -17,7 +17,7 @@ use Rattle.history.proofs.Ends.{Up}
 use Rattle.history.proofs.Invariant.{Covers, Wholes}
 use Rattle.history.proofs.Moves.{GainsOne}
 use Rattle.history.proofs.Reading.{in_copy_on, alive}
-use Rattle.history.proofs.Sides.{PutBoth, puts_good, puts_off, puts_side, not_both}
+use Rattle.history.proofs.Sides.{PutBoth, puts_good, puts_off, puts_side}
 use Rattle.history.proofs.Splits.{After, after_parts}
 use Rattle.history.proofs.Tables.{listed_lookup}
 use Rattle.history.proofs.Wholes.{wholes_stay, sizes_stay}
@@ -46,7 +46,7 @@ module _ {A : Type 0} (a : A) (p : Plain) (d : Disks) (m : Memory) (up : Up p m 
   put_ends q g good_then gone_then = by (after_parts m (write x t b) (λ _. giving m a) r)
     where
       off_by : (f : Fault) → o ≡ record { answer = refused f; memory = m } → PutBoth x d t b (refused f) e → Puts a m q g o e
-      off_by f is (puts_good w told left on now else gains) = not_both (sym told)
+      off_by f is (puts_good w told left on now else gains) = cc
       off_by f is (puts_off w off left gains) =
           let same : f ≡ off.fault = let h = off.told in cc in
           fell f is (ap (λ y. y.number) same ∙ off.number) off.gone (subst (Covers g) (sym left) (gone_then w (side_count w left) gains))
@@ -56,7 +56,7 @@ module _ {A : Type 0} (a : A) (p : Plain) (d : Disks) (m : Memory) (up : Up p m 
           let h = run_over rest in
           let end : e ≡ with_side x d w = h.1 ∙ left in
           wrote h.0 (subst (Up q m) (sym end) (good_then w (side_count w end) on now else gains (subst Wholes end (wholes_stay r up.whole))))
-      good_by y mid rest (puts_off w off left gains) = not_both off.told
+      good_by y mid rest (puts_off w off left gains) = cc
 
       by : After m (write x t b) (λ _. giving m a) d o e → Puts a m q g o e
       by (After.stopped f run is) = off_by f is (puts_side x t b (alive p d m up) here long run)

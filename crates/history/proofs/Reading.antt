@@ -21,7 +21,7 @@ use Rattle.history.proofs.Ends.{Up, Down, Ends, good_end, off_end, down_by}
 use Rattle.history.proofs.Fair.{Readable}
 use Rattle.history.proofs.Fairs.{chunk_on}
 use Rattle.history.proofs.Invariant.{Copies, Covers, Wholes, Fewer, covers_fewer, fewer_chosen, fewer_trans}
-use Rattle.history.proofs.Sides.{Live, live, FewerBoth, WentOff, ReadBoth, reads_good, reads_off, reads_side, FlushBoth, flushes_good, flushes_off, flushes_side, not_both}
+use Rattle.history.proofs.Sides.{Live, live, FewerBoth, WentOff, ReadBoth, reads_good, reads_off, reads_side, FlushBoth, flushes_good, flushes_off, flushes_side}
 use Rattle.history.proofs.Splits.{After, after_parts, Then, then_parts}
 use Rattle.history.proofs.Spots.{reads_origin, reads_copy}
 use Rattle.history.proofs.Tables.{listed_lookup}
@@ -50,7 +50,7 @@ module _ (p : Plain) (d : Disks) (m : Memory) (up : Up p m d) where
     read_ends = by (after_parts m (read x s) (λ b. giving m b) r)
       where
         was_refused : (f : Fault) → o ≡ record { answer = refused f; memory = m } → ReadBoth d (image (side x d) s) (refused f) e → Ends p c (good (contents (image (side x d) s))) (replied contents o.answer) o.memory e
-        was_refused f is (reads_good t y) = not_both (sym t)
+        was_refused f is (reads_good t y) = cc
         was_refused f is (reads_off w few) = off_end w.fault (ap (replied contents) (ap (λ y. y.answer) is ∙ w.told)) w.number (lost_nothing among (wholes_stay r up.whole) (sizes_stay r) w.gone few)
 
         was_good : (b : Bytes) (mid : Disks) → Runs both (giving m b) mid o e → ReadBoth d (image (side x d) s) (good b) mid → Ends p c (good (contents (image (side x d) s))) (replied contents o.answer) o.memory e
@@ -59,7 +59,7 @@ module _ (p : Plain) (d : Disks) (m : Memory) (up : Up p m d) where
             let bytes : b ≡ image (side x d) s = cc in
             let told : replied contents o.answer ≡ good (contents (image (side x d) s)) = ap (λ y. replied contents y.answer) q.0 ∙ ap (λ z. good (contents z)) bytes in
             good_end _ told told (subst (λ z. Up (performed p c) z e) (sym (ap (λ y. y.memory) q.0)) (subst (Up (performed p c) m) (sym (q.1 ∙ y)) (subst (λ z. Up z m d) (sym same) up)))
-        was_good b mid rest (reads_off w few) = not_both w.told
+        was_good b mid rest (reads_off w few) = cc
 
         by : After m (read x s) (λ b. giving m b) d o e → Ends p c (good (contents (image (side x d) s))) (replied contents o.answer) o.memory e
         by (After.stopped f run is) = was_refused f is (reads_side x s alive here run)
@@ -163,7 +163,7 @@ core_flush p d m up o e r = by (after_parts m (then (flush origin) (λ _. flush 
         long cow = (alive p d m up).long cow
 
     second_off : (f : Fault) → o ≡ record { answer = refused f; memory = m } → FlushBoth cow half (refused f) e → Answer'
-    second_off f is (flushes_good t y) = not_both (sym t)
+    second_off f is (flushes_good t y) = cc
     second_off f is (flushes_off w few) = off f w is (record { origin = fewer_trans (settled_fewer d.origin) few.origin; cow = few.cow })
 
     second_good : (b : Bytes) (mid : Disks) → Runs both (giving m tt) mid o e → FlushBoth cow half (good b) mid → Answer'
@@ -172,15 +172,15 @@ core_flush p d m up o e r = by (after_parts m (then (flush origin) (λ _. flush 
         let told : replied (λ _. nothing) o.answer ≡ good nothing = ap (λ y. replied (λ _. nothing) y.answer) q.0 in
         let end : e ≡ rested d = q.1 ∙ y in
         good_end nothing told told (subst (λ z. Up (flushed p) z e) (sym (ap (λ y. y.memory) q.0)) (subst (Up (flushed p) m) (sym end) (flushed_up p d m up (subst Wholes end (wholes_stay r up.whole)))))
-    second_good b mid rest (flushes_off w few) = not_both w.told
+    second_good b mid rest (flushes_off w few) = cc
 
     first_off : (f : Fault) → o ≡ record { answer = refused f; memory = m } → FlushBoth origin d (refused f) e → Answer'
-    first_off f is (flushes_good t y) = not_both (sym t)
+    first_off f is (flushes_good t y) = cc
     first_off f is (flushes_off w few) = off f w is few
 
     first_good : {b : Bytes} {mid : Disks} → FlushBoth origin d (good b) mid → mid ≡ half
     first_good (flushes_good t y) = y
-    first_good (flushes_off w few) = not_both w.told
+    first_good (flushes_off w few) = cc
 
     by : After m (then (flush origin) (λ _. flush cow)) (λ _. giving m tt) d o e → Answer'
     by (After.stopped f run is) = parts (then_parts (flush origin) (λ _. flush cow) run)
@@ -192,6 +192,6 @@ core_flush p d m up o e r = by (after_parts m (then (flush origin) (λ _. flush 
     by (After.went_on b mid run rest) = parts (then_parts (flush origin) (λ _. flush cow) run)
       where
         parts : Then (flush origin) (λ _. flush cow) d (good b) mid → Answer'
-        parts (Then.stopped g first told) = not_both told
+        parts (Then.stopped g first told) = cc
         parts (Then.went_on b' half' first second) =
             second_good b mid rest (flushes_side cow half_live (subst (λ z. Runs both (flush cow) z (good b) mid) (first_good (flushes_side origin (alive p d m up) first)) second))

@@ -1,5 +1,5 @@
 -- What the tests before a call say: by their refusals, by passing, and of the run that follows.
-use Rattle.std.proofs.Common.{◌≡◌, ℕ, Bool, true, false, eqb, List, [], ◌∷◌, length, Some, None, Option, sym, refl, ap, ◌∙◌, subst, arith}
+use Rattle.std.proofs.Common.{◌≡◌, ℕ, Bool, true, false, eqb, List, [], ◌∷◌, length, Some, None, Option, sym, refl, ap, ◌∙◌, subst}
 use Rattle.std.specs.List.{AllByRecursion}
 use Rattle.std.proofs.lemmas.Bool.{both_ways, not-false, cond-false}
 use Rattle.device.specs.Disk.{refused}
@@ -17,18 +17,15 @@ first_all P none [] h = none
 first_all P none (None ∷ ts) h = first_all P none ts h.1
 first_all P none (Some f ∷ ts) h = h.0
 
-never_some : {X : Type 0} {f : Fault} → ◌≡◌ {A = Option Fault} None (Some f) → X
-never_some h = absurd (let z : ◌≡◌ {A = ℕ} 0 1 = cc in omega arith)
-
 -- where no test refuses, each passes
 pub passed : (ts : List (Option Fault)) → first ts ≡ None → AllByRecursion (λ t. t ≡ None) ts
 passed [] h = tt
 passed (None ∷ ts) h = (refl, passed ts h)
-passed (Some f ∷ ts) h = never_some (sym h)
+passed (Some f ∷ ts) h = cc
 
 -- a test that passes was not so
 pub test_passed : (b : Bool) (f : Fault) → test b f ≡ None → b ≡ false
-test_passed true f h = never_some (sym h)
+test_passed true f h = cc
 test_passed false f h = refl
 
 -- the tests of each call, in their order
@@ -72,16 +69,16 @@ Tells m o = (f : Fault) → o ≡ Some f → (eqb f.number 3 ≡ false) × (eqb 
 
 other : (m : Memory) (b : Bool) (f : Fault) → eqb f.number 3 ≡ false → eqb f.number 6 ≡ false → Tells m (test b f)
 other m true f a b g h = let same : f ≡ g = cc in subst (λ x. (eqb x.number 3 ≡ false) × (eqb x.number 6 ≡ true → is_invalid m ≡ true)) same (a, λ z. absurd (both_ways _ b z))
-other m false f a b g h = never_some h
+other m false f a b g h = cc
 
 six : (m : Memory) → Tells m (not_invalid m)
-six closed f h = never_some h
-six (serving size t) f h = never_some h
+six closed f h = cc
+six (serving size t) f h = cc
 six invalid f h = let same : pair_fault 6 ≡ f = cc in (ap (λ x. eqb x.number 3) (sym same), λ z. refl)
 
 module _ (g : Ground) (m : Memory) where
   none : Tells m None
-  none f h = never_some h
+  none f h = cc
 
   length_tells : (n : ℕ) → Tells m (sector_length n)
   length_tells n = other m _ (pair_fault 1) refl refl
@@ -138,12 +135,12 @@ still leave_merge = true
 still (reopen w) = false
 
 guarded_refused : {A : Type 0} (rep : A → Reply) (mode : Mode) (m : Memory) (o : Option Fault) (p : Plan Side (Outcome A)) {d e : Disks} {r : Result} (f : Fault) → o ≡ Some f → Runs both (as_call rep mode (guarded m o p)) d r e → r.answer ≡ refused f
-guarded_refused rep mode m None p f is ran = never_some is
+guarded_refused rep mode m None p f is ran = cc
 guarded_refused rep mode m (Some x) p f is ran = let same : x ≡ f = cc in ap (λ r. r.answer) (run_over ran).0 ∙ ap refused same
 
 -- a call that a test refuses answers so
 refused_at_once : (g : Ground) (m : Memory) (mode : Mode) (c : Call) (f : Fault) {d e : Disks} {r : Result} → refusal g m mode c ≡ Some f → Runs both (plan_of g m mode c) d r e → r.answer ≡ refused f
-refused_at_once g m mode ask_status f is ran = never_some is
+refused_at_once g m mode ask_status f is ran = cc
 refused_at_once g m mode ask_merge f is ran = ap (λ r. r.answer) (run_over ran).0 ∙ ap asked is
 refused_at_once g m mode (read_origin s n) f is ran = guarded_refused _ mode m _ _ f is ran
 refused_at_once g m mode (read_view s n) f is ran = guarded_refused _ mode m _ _ f is ran
@@ -151,9 +148,9 @@ refused_at_once g m mode (write_origin s b w) f is ran = guarded_refused _ mode 
 refused_at_once g m mode (write_snapshot s b w) f is ran = guarded_refused _ mode m _ _ f is ran
 refused_at_once g m mode (write_merging s b) f is ran = guarded_refused _ mode m _ _ f is ran
 refused_at_once g m mode flush_all f is ran = guarded_refused _ mode m _ _ f is ran
-refused_at_once g m mode begin_merge f is ran = never_some is
+refused_at_once g m mode begin_merge f is ran = cc
 refused_at_once g m mode (step_merge w) f is ran = guarded_refused _ mode m _ _ f is ran
-refused_at_once g m mode leave_merge f is ran = never_some is
+refused_at_once g m mode leave_merge f is ran = cc
 refused_at_once g m mode (reopen w) f is ran = guarded_refused _ mode m _ _ f is ran
 
 -- while a device is gone only a still call passes the tests

@@ -1,5 +1,5 @@
 -- A reopening that no test refused.
-use Rattle.std.proofs.Common.{◌≡◌, ℕ, ◌^◌, ◌<◌, true, false, ◌⊎◌, [], Some, None, Option, sym, refl, ap, ◌∙◌, subst, ⊎_elim, arith}
+use Rattle.std.proofs.Common.{◌≡◌, ℕ, ◌^◌, ◌<◌, true, false, ◌⊎◌, [], Some, None, Option, sym, refl, ap, ◌∙◌, subst, ⊎_elim}
 use Rattle.std.proofs.ByRecursion.{has_push}
 use Rattle.std.proofs.lemmas.Bool.{cases_Bool, and_from, and_parts, and_right, cond-false, true≢false}
 use Rattle.device.specs.Disk.{Disk, Told, good, refused, refusal}
@@ -49,12 +49,12 @@ opened : (d : Disks) (o : Outcome (Unit {0})) (e : Disks) → Runs both (after c
 opened d o e r = by (after_parts closed (in_store (opening (sizes d) work_bytes)) (λ x. giving (serving x.size x.table) tt) r)
   where
     as_refused : (f : Fault) (u : Told StoreRefusal Contents) → refused f ≡ raised store_up u → ◌≡◌ {A = Outcome (Unit {0})} (record { answer = refused f; memory = closed }) (outcome_of u)
-    as_refused f (good x) h = absurd (let z : ◌≡◌ {A = ℕ} 0 1 = cc in omega arith)
+    as_refused f (good x) h = cc
     as_refused f (refused g) h = let same : f ≡ store_up g = cc in ap (λ y. record { answer = refused y; memory = closed }) same
 
     as_good : (x : Contents) (u : Told StoreRefusal Contents) → good x ≡ raised store_up u → outcome_of (good x) ≡ outcome_of u
     as_good x (good y) h = let same : x ≡ y = cc in ap (λ y. outcome_of (good y)) same
-    as_good x (refused g) h = absurd (let z : ◌≡◌ {A = ℕ} 0 1 = cc in omega arith)
+    as_good x (refused g) h = cc
 
     by : After closed (in_store (opening (sizes d) work_bytes)) (λ x. giving (serving x.size x.table) tt) d o e → Opened d o e
     by (stopped f run is) = let a = at_store (opening (sizes d) work_bytes) run in record { told = a.answer; disk = a.disk; ran = a.ran; is = is ∙ as_refused f a.answer a.told; left = a.left }

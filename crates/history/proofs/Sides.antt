@@ -1,5 +1,5 @@
 -- What steps at one of the two devices leave of both.
-use Rattle.std.proofs.Common.{◌≡◌, ℕ, ◌+◌, ◌*◌, ◌<◌, ◌≤◌, true, false, [], length, sym, refl, ap, ◌∙◌, subst, arith}
+use Rattle.std.proofs.Common.{◌≡◌, ℕ, ◌+◌, ◌*◌, ◌<◌, ◌≤◌, true, false, [], length, sym, refl, ap, ◌∙◌, subst}
 use Rattle.std.proofs.lemmas.Bool.{and_parts, and_left, and_right}
 use Rattle.device.specs.Disk.{Bytes, Disk, reads, writes, flushes, settled, Told, good, refused, Refusal, refusal}
 use Rattle.device.specs.Plans.{Runs, both, Side, origin, cow, Disks, side, with_side, with_same, raised, gathering, spreading}
@@ -63,10 +63,6 @@ went_off x d w q told left is off = record {
   number = three x q;
   gone = subst (λ y. both_on y ≡ false) (sym left) (off_side x d w off);
 }
-
--- a refusal is no good answer
-pub not_both : {X A : Type 0} {a : A} {f : Fault} → ◌≡◌ {A = Told Fault A} (good a) (refused f) → X
-not_both h = absurd (let z : ◌≡◌ {A = ℕ} 0 1 = cc in omega arith)
 
 -- a device went inside the first steps, and so inside all
 pub off_as : {A B : Type 0} {t : Told Fault B} {f : Fault} {e : Disks} → t ≡ refused f → WentOff {A = A} (refused f) e → WentOff t e

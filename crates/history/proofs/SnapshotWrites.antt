@@ -23,7 +23,6 @@ use Rattle.history.proofs.Spots.{uncopied, copy_diverged}
 use Rattle.history.proofs.Through.{at_copy}
 use Rattle.store.specs.Steps.{only_call}
 use Rattle.history.proofs.Wholes.{wholes_stay, sizes_stay}
-use Rattle.history.proofs.Sides.{not_both}
 
 -- SNAPSHOT WRITES
 
@@ -70,7 +69,7 @@ module _ (p : Plain) (d : Disks) (s : ℕ) (b : Bytes) (k : ℕ) (valid : p.void
         two = subst (λ l. Has l (on_view (perhaps b) s (parted p s))) (sym two_ways) (subst (λ y. Has (p ∷ on_view (perhaps b) s y ∷ []) (on_view (perhaps b) s (parted p s))) (sym same) (second_of p _))
 
         off_by : (f : Fault) → o ≡ record { answer = refused f; memory = serving p.chunk (table_of p) } → Parts p valid d up s here out place free (refused f) e → Good
-        off_by f is (parts_good told u) = not_both (sym told)
+        off_by f is (parts_good told u) = cc
         off_by f is (parts_off off survives) =
             off_two p d up e (λ _. nothing) o (wholes_stay r up.whole) (sizes_stay r) (write_snapshot s b k) (good nothing) (serving p.chunk (table_of p)) (on_view (perhaps b) s (parted p s)) one two off is
             (λ x cut. ⊎_elim inl (λ c. inr (wider_view (parted p s) x s b (copy_diverged (parted p s) s place there) c)) (survives x cut))
@@ -82,7 +81,7 @@ module _ (p : Plain) (d : Disks) (s : ℕ) (b : Bytes) (k : ℕ) (valid : p.void
             (ap (on_view (added b) s) same) two
             (copy_puts tt (parted p s) valid mid (serving p.chunk (table_of (parted p s))) u s place b long there o e
             (subst (λ q. Runs both (after (serving p.chunk (table_of (parted p s))) q (λ _. giving (serving p.chunk (table_of (parted p s))) tt)) mid o e) (at_copy p.size p.chunk (table_of (parted p s)) (u.stands valid).listed d up.agrees.sectors (chunk_of p s) place there (only_call (writes (in_copy (sectors p.chunk) place s) b))) (subst (λ l. Runs both (copy_put (ground d) p.chunk l s b place) mid o e) is rest)))
-        good_by more mid rest (parts_off off survives) = not_both off.told
+        good_by more mid rest (parts_off off survives) = cc
 
         by : After (serving p.chunk (table_of p)) (copying (ground d) p.chunk (table_of p) (chunk_of p s) place) (λ more. copy_put (ground d) p.chunk more s b place) d o e → Good
         by (After.stopped f run is) = off_by f is (parts p valid d up s here out place free run)

@@ -1,5 +1,5 @@
 -- Where a sector of the view stands, by the chunks that have diverged.
-use Rattle.std.proofs.Common.{◌≡◌, ℕ, true, false, Some, None, Option, sym, ap, ◌∙◌, ⊎_elim, arith}
+use Rattle.std.proofs.Common.{◌≡◌, ℕ, true, false, Some, None, sym, ap, ◌∙◌, ⊎_elim}
 use Rattle.std.proofs.lemmas.Bool.{cases_Bool}
 use Rattle.device.specs.Plans.{Disks, side}
 use Rattle.layout.specs.Chunks.{sectors, per_area, in_copy}
@@ -22,7 +22,7 @@ module _ (p : Plain) (s : ℕ) where
   copy_diverged k is = has_chunk_old (per_area (sectors p.chunk)) 0 p.diverged (chunk_of p s) ∙ lookup_has (table_of p) (chunk_of p s) k is
 
   pub uncopied : lookup (table_of p) (chunk_of p s) ≡ None → diverged_at p s ≡ false
-  uncopied is = ⊎_elim (λ div. absurd (let k = a_copy div in let e : ◌≡◌ {A = Option ℕ} None (Some k.0) = sym is ∙ k.1 in let z : ◌≡◌ {A = ℕ} 0 1 = cc in omega arith)) (λ out. out) (cases_Bool (diverged_at p s))
+  uncopied is = ⊎_elim (λ div. cc (a_copy div).1) (λ out. out) (cases_Bool (diverged_at p s))
 
   -- so it reads from the origin, or from its copy
   pub reads_origin : (d : Disks) → lookup (table_of p) (chunk_of p s) ≡ None → reads_at d p.chunk (table_of p) s ≡ image d.origin s

@@ -1,5 +1,5 @@
 -- A snapshot just made.
-use Rattle.std.proofs.Common.{◌≡◌, ℕ, ◌/◌, ◌≤◌, Bool, true, false, List, [], ◌∷◌, Some, None, Option, sym, refl, ap, ◌∙◌, subst, inl, arith}
+use Rattle.std.proofs.Common.{◌≡◌, ℕ, ◌/◌, ◌≤◌, Bool, true, false, List, [], ◌∷◌, Some, None, Option, sym, refl, ap, ◌∙◌, subst, inl}
 use Rattle.std.specs.List.{ContainsAt as Has}
 use Rattle.std.proofs.ByRecursion.{has_push}
 use Rattle.std.proofs.lemmas.Bool.{and_from, and_parts, true≢false, leb-true, not-false}
@@ -14,7 +14,7 @@ use Rattle.store.specs.Steps.{only_call, making}
 use Rattle.recovery.specs.Readings.{image}
 use Rattle.recovery.specs.Standing.{Stands}
 use Rattle.recovery.proofs.Makes.{making_stands}
-use Rattle.history.specs.Faults.{Fault, pair_fault, passed_up, flush, Moves, at_side}
+use Rattle.history.specs.Faults.{Fault, passed_up, flush, Moves, at_side}
 use Rattle.history.specs.Steps.{Memory, plain, closed, serving, ground, sizes, both_on, Outcome, first, test, still_closed, guarded, shape, after, giving, make_sized, make_tests}
 use Rattle.history.specs.History.{Situation, Made}
 use Rattle.history.specs.Machine.{initial, made, Agrees}
@@ -47,7 +47,7 @@ module _ (size : ChunkSize) (start : Situation) (whole : Wholes start.disks) (on
     valid = λ _. record {
       listed = st.listed;
       lists = stands_lists _ _ _ _ st;
-      copies = λ s k b l is has. absurd (let z : ◌≡◌ {A = ℕ} 0 1 = cc in omega arith);
+      copies = λ s k b l is has. cc;
     };
     spoiled = λ y. absurd (true≢false (sym y));
   }
@@ -68,20 +68,20 @@ module _ (size : ChunkSize) (start : Situation) (whole : Wholes start.disks) (on
 -- a good run was refused by no test
 passed : {A : Type 0} (m : Memory) (t : Option Fault) (p : Plan Side (Outcome A)) {d e : Disks} {a : A} {n : Memory} → Runs both (guarded m t p) d (record { answer = good a; memory = n }) e → (t ≡ None) × Runs both p d (record { answer = good a; memory = n }) e
 passed m None p r = (refl, r)
-passed {A} m (Some f) p {a = a} r = let h : ◌≡◌ {A = Told Fault A} (good a) (refused f) = ap (λ y. y.answer) (run_over r).0 in absurd (let z : ◌≡◌ {A = ℕ} 0 1 = cc in omega arith)
+passed {A} m (Some f) p {a = a} r = cc (ap (λ y. y.answer) (run_over r).0)
 
 test_none : (b : Bool) (f : Fault) → test b f ≡ None → b ≡ false
-test_none true f h = absurd (let z : ◌≡◌ {A = ℕ} 0 1 = cc in omega arith)
+test_none true f h = cc
 test_none false f h = refl
 
 first_none : (b : Bool) (f : Fault) (ts : List (Option Fault)) → first (test b f ∷ ts) ≡ None → b ≡ false
-first_none true f ts h = absurd (let z : ◌≡◌ {A = ℕ} 0 1 = cc in omega arith)
+first_none true f ts h = cc
 first_none false f ts h = refl
 
 -- a good answer of steps at one device is good there
 good_there : {F A : Type 0} (up : F → Fault) (t : Told F A) {a : A} → good a ≡ raised up t → t ≡ good a
 good_there up (good b) h = let same : b ≡ _ = cc in ap good same
-good_there up (refused f) h = absurd (let z : ◌≡◌ {A = ℕ} 0 1 = cc in omega arith)
+good_there up (refused f) h = cc
 
 -- a good flush leaves one possibility a sector
 flushed : {d e : Disk} {b : Bytes} → Runs one (only_call flushes) d (good b) e → e ≡ settled d
@@ -118,7 +118,7 @@ module _ (size : ChunkSize) (d : Disks) where
   both_did {a} {e} r = by (then_parts (flush origin) (λ _. at_side cow (making (sectors size))) r)
     where
       by : Then (flush origin) (λ _. at_side cow (making (sectors size))) d (good a) e → (w : Disk) × Runs one (making (sectors size)) d.cow (good tt) w × (e ≡ pair (settled d.origin) w)
-      by (Then.stopped f run is) = absurd (let z : ◌≡◌ {A = ℕ} 0 1 = cc in omega arith)
+      by (Then.stopped f run is) = cc
       by (Then.went_on b mid run rest) =
           let x = at_one origin (only_call flushes) run in
           let y = at_one cow (making (sectors size)) rest in
@@ -134,7 +134,7 @@ module _ (size : ChunkSize) (d : Disks) where
   after_did {m} {e} r = by (after_parts closed (steps size) (λ _. giving (serving size []) tt) r)
     where
       by : After closed (steps size) (λ _. giving (serving size []) tt) d (well m) e → (m ≡ serving size []) × ((a : Unit {0}) × Runs both (steps size) d (good a) e)
-      by (After.stopped f run is) = absurd (let h : ◌≡◌ {A = Told Fault (Unit {0})} (good tt) (refused f) = ap (λ y. y.answer) is in let z : ◌≡◌ {A = ℕ} 0 1 = cc in omega arith)
+      by (After.stopped f run is) = cc (ap (λ y. y.answer) is)
       by (After.went_on a mid run rest) =
           let o = run_over rest in
           (ap (λ y. y.memory) o.0, (a, subst (Runs both (steps size) d (good a)) (sym o.1) run))
@@ -147,7 +147,7 @@ module _ (size : ChunkSize) (d : Disks) where
       record { shaped = not-false _ (test_none _ _ g.0); memory = x.0; disk = y.0; ran = y.1; left = y.2 }
 
 sized_did : (o : Option ChunkSize) (d : Disks) {m : Memory} {e : Disks} → Runs both (make_sized (ground d) closed o) d (well m) e → (size : ChunkSize) × (o ≡ Some size) × Did size d m e
-sized_did None d r = let h : ◌≡◌ {A = Told Fault (Unit {0})} (good tt) (refused (pair_fault 8)) = ap (λ y. y.answer) (run_over r).0 in absurd (let z : ◌≡◌ {A = ℕ} 0 1 = cc in omega arith)
+sized_did None d r = cc (ap (λ y. y.answer) (run_over r).0)
 sized_did (Some size) d r = (size, refl, shape_did size d r)
 
 -- an empty store was made on a device that stays on

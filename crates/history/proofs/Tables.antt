@@ -126,7 +126,7 @@ lookup_past (x ∷ xs) ys k h =
 
 -- a copy that the first list has stays
 pub lookup_front : (xs ys : List Exception) (k p : ℕ) → lookup xs k ≡ Some p → lookup (xs ++ ys) k ≡ Some p
-lookup_front [] ys k p is = absurd (let z : ◌≡◌ {A = ℕ} 0 1 = cc in omega arith)
+lookup_front [] ys k p is = cc
 lookup_front (x ∷ xs) ys k p is =
     ⊎_elim
     (λ e. lookup_here x (xs ++ ys) k e ∙ sym (lookup_here x xs k e) ∙ is)
@@ -152,7 +152,7 @@ lookup_dropped es i k p is none = sym (lookup_past (take i es) (drop i es) k (sy
 
 -- what is found stands at a place
 pub lookup_at : (es : List Exception) (k p : ℕ) → lookup es k ≡ Some p → (i : ℕ) × (i < length es) × (get_or es i nothing ≡ record { old = k; new = p })
-lookup_at [] k p is = absurd (let z : ◌≡◌ {A = ℕ} 0 1 = cc in omega arith)
+lookup_at [] k p is = cc
 lookup_at (x ∷ xs) k p is =
     ⊎_elim
     (λ e. let same : x.new ≡ p = (let f = lookup_here x xs k e in cc) in (0, omega arith, λ j. record { old = e j; new = same j }))
@@ -236,7 +236,7 @@ module _ (z : Sizes) (size : ChunkSize) (es : List Exception) (l : Listed z size
 
 -- no new chunk is above the largest
 below_largest : (es : List Exception) (k p : ℕ) → lookup es k ≡ Some p → p ≤ largest es
-below_largest [] k p is = absurd (let z : ◌≡◌ {A = ℕ} 0 1 = cc in omega arith)
+below_largest [] k p is = cc
 below_largest (x ∷ xs) k p is =
     ⊎_elim
     (λ e. let same : x.new ≡ p = (let f = lookup_here x xs k e in cc) in omega arith)
@@ -285,4 +285,4 @@ room_free z size es low l p = go (has_room entries_at_most (sectors size) (z.cow
         let r = next_free z size es l in
         let on = ltb-true _ _ (and_parts (ltb (next_place (sectors size) es) (z.cow / sectors size)) _ h).0 in
         (subst (λ q. is_data (sectors size) q ≡ true) same r.0, subst (λ q. q < z.cow / sectors size) same on, λ k found. omega (arith, below_largest es k p found, r.1, same))
-    go false h is = absurd (let z : ◌≡◌ {A = ℕ} 0 1 = cc in omega arith)
+    go false h is = cc

@@ -7,7 +7,7 @@ use Rattle.layout.specs.Chunks.{sectors}
 use Rattle.exceptions.specs.Table.{entries_at_most, room}
 use Rattle.history.specs.Faults.{Fault, store_fault}
 use Rattle.history.specs.Steps.{closed, serving, invalid, is_closed, is_invalid, ground, not_invalid, opened, next_free}
-use Rattle.history.specs.History.{Situation, Call, ask_status, ask_merge, read_origin, read_view, write_origin, write_snapshot, write_merging, flush_all, begin_merge, step_merge, leave_merge, reopen, Reply, Answer, refusal, End, under_way, not_done}
+use Rattle.history.specs.History.{Situation, Call, ask_status, ask_merge, read_origin, read_view, write_origin, write_snapshot, write_merging, flush_all, begin_merge, step_merge, leave_merge, reopen, nothing, Reply, Answer, refusal, End, under_way, not_done}
 use Rattle.history.specs.Machine.{Machine, diverged_at, can_diverge, finds_full, table_of, chunk_of, ground_of, memory_of, reply, unless_refused, Follows, went, told}
 use Rattle.history.specs.Promise.{kind, of_snapshot, begins, no_place, found_full, is_invalid_refusal}
 use Rattle.history.proofs.Invariant.{On}
@@ -21,9 +21,6 @@ is_T b e = subst T (sym e) tt
 pub T_is : (b : Bool) → T b → b ≡ true
 T_is true t = refl
 T_is false t = absurd t
-
-pub never_good : {X : Type 0} {f : Fault} {r : Reply} → ◌≡◌ {A = Answer} (good r) (refused f) → X
-never_good h = absurd (let z : ◌≡◌ {A = ℕ} 0 1 = cc in omega arith)
 
 -- WHAT IS REMEMBERED
 
@@ -62,12 +59,12 @@ pub record Served (m : Machine) (c : Call) (r : Reply) : Type 0 where
   pub says : good r ≡ reply m c
 
 pub served : (m : Machine) (c : Call) (r : Reply) → Follows m c (good r) → Served m c r
-served m c r (went e) = absurd (let z : ◌≡◌ {A = ℕ} 0 1 = cc in omega arith)
+served m c r (went e) = cc
 served m c r (told e) = go (refusal (ground_of m) (memory_of m) m.mode c) refl e
   where
     go : (o : Option Fault) → refusal (ground_of m) (memory_of m) m.mode c ≡ o → good r ≡ unless_refused o (reply m c) → Served m c r
     go None is e = record { passes = is; says = e }
-    go (Some f) is e = never_good e
+    go (Some f) is e = cc
 
 pub tests : (m : Machine) (c : Call) (r : Reply) → Served m c r → AllByRecursion (λ t. t ≡ None) (tests_of (ground_of m) (memory_of m) m.mode c)
 tests m c r x = each_passed (ground_of m) (memory_of m) m.mode c x.passes
@@ -77,22 +74,22 @@ seven_void m f k is six = let same : store_fault 7 k 0 ≡ f = cc in absurd (bot
 
 -- a reply is refused as invalid where the view is void
 reply_void : (m : Machine) (c : Call) (f : Fault) → reply m c ≡ refused f → eqb f.number 6 ≡ true → m.plain.void ≡ true
-reply_void m ask_status f is six = never_good is
-reply_void m ask_merge f is six = never_good is
-reply_void m (read_origin s n) f is six = never_good is
-reply_void m (read_view s n) f is six = never_good is
-reply_void m (write_origin s b w) f is six = never_good is
+reply_void m ask_status f is six = cc
+reply_void m ask_merge f is six = cc
+reply_void m (read_origin s n) f is six = cc
+reply_void m (read_view s n) f is six = cc
+reply_void m (write_origin s b w) f is six = cc
 reply_void m (write_snapshot s b w) f is six =
     ⊎_elim
-    (λ e. never_good (sym (cond-true _ _ _ e) ∙ is))
+    (λ e. let h : ◌≡◌ {A = Answer} (good nothing) (refused f) = sym (cond-true _ _ _ e) ∙ is in cc)
     (λ e. seven_void m f (chunk_of m.plain s) (sym (cond-false _ _ _ e) ∙ is) six)
     (cases_Bool (diverged_at m.plain s || can_diverge m.plain))
-reply_void m (write_merging s b) f is six = never_good is
-reply_void m flush_all f is six = never_good is
-reply_void m begin_merge f is six = never_good is
-reply_void m (step_merge w) f is six = never_good is
-reply_void m leave_merge f is six = never_good is
-reply_void m (reopen w) f is six = ⊎_elim (λ e. e) (λ e. never_good (sym (cond-false _ _ _ e) ∙ is)) (cases_Bool m.plain.void)
+reply_void m (write_merging s b) f is six = cc
+reply_void m flush_all f is six = cc
+reply_void m begin_merge f is six = cc
+reply_void m (step_merge w) f is six = cc
+reply_void m leave_merge f is six = cc
+reply_void m (reopen w) f is six = ⊎_elim (λ e. e) (λ e. let h : ◌≡◌ {A = Answer} (good nothing) (refused f) = sym (cond-false _ _ _ e) ∙ is in cc) (cases_Bool m.plain.void)
 
 -- a call is refused as invalid only where the view is void
 pub refused_void : (m : Machine) (c : Call) (a : Answer) → Follows m c a → T (is_invalid_refusal a) → m.plain.void ≡ true
@@ -100,7 +97,7 @@ refused_void m c (good r) follows six = absurd six
 refused_void m c (refused f) (went e) six =
     let is = eqb-true f.number 6 (T_is _ six) in
     let over : not_done ≡ under_way = sym (cond-false (eqb f.number 3) under_way not_done (ne_eqb _ _ (λ z. omega arith))) ∙ e in
-    absurd (let z : ◌≡◌ {A = ℕ} 0 1 = cc in omega arith)
+    cc
 refused_void m c (refused f) (told e) six = go (refusal (ground_of m) (memory_of m) m.mode c) refl e
   where
     go : (o : Option Fault) → refusal (ground_of m) (memory_of m) m.mode c ≡ o → refused f ≡ unless_refused o (reply m c) → m.plain.void ≡ true
@@ -124,7 +121,7 @@ void_unserved m flush_all r void x = tt
 void_unserved m begin_merge r void x = tt
 void_unserved m (step_merge w) r void x = let ts = tests m (step_merge w) r x in absurd (both_ways _ (valid_by m ts.1.1.0 ts.1.1.1.0) void)
 void_unserved m leave_merge r void x = tt
-void_unserved m (reopen w) r void x = never_good (x.says ∙ cond-true _ _ _ void)
+void_unserved m (reopen w) r void x = let h : ◌≡◌ {A = Answer} (good r) (refused (store_fault 6 0 0)) = x.says ∙ cond-true _ _ _ void in cc
 
 -- FULL STORES
 
