@@ -1,22 +1,24 @@
 -- A chunk copied to the next place and entered: the machine's chunk diverges.
-use Rattle.std.proofs.Common.{◌≡◌, ℕ, ◌+◌, ◌*◌, ◌/◌, ◌%◌, ◌<◌, true, false, [], ◌∷◌, ◌++◌, length, Some, None, Option, sym, refl, ap, ◌∙◌, subst, ap₂, inl, inr, ⊎_elim, div-lt_iff_lt-mul, div-add-mod', arith}
+use Rattle.std.proofs.Common.{◌≡◌, ℕ, ◌+◌, ◌*◌, ◌/◌, ◌%◌, ◌<◌, true, false, [], ◌∷◌, ◌++◌, length, List, Some, None, Option, sym, refl, ap, ◌∙◌, subst, ap₂, inl, inr, ⊎_elim, div-lt_iff_lt-mul, div-add-mod', arith}
 use lib.Arith.{digits_div}
 use Rattle.std.specs.List.{ContainsAt as Has}
 use Rattle.std.proofs.lemmas.Bool.{cases_Bool, cases_eq, and_from, or_parts, cond-true, cond-false, true≢false}
-use Rattle.device.specs.Disk.{Bytes, Disk, possibilities}
+use Rattle.device.specs.Disk.{Bytes, Disk, possibilities, Told}
 use Rattle.device.specs.Plans.{cow, Disks, with_side}
 use Rattle.device.proofs.Possible.{last_has}
 use Rattle.layout.specs.declared.chunk.ChunkSize.{ChunkSize}
+use Rattle.layout.specs.declared.exception.Exception.{Exception}
 use Rattle.layout.specs.Chunks.{sectors, per_area, is_data, in_copy}
 use Rattle.exceptions.specs.Table.{entries_at_most, has_old, lookup, room}
 use Rattle.recovery.specs.Breaks.{more}
 use Rattle.recovery.specs.Readings.{Image, image, found}
 use Rattle.recovery.specs.Standing.{Within, Listed, Stands, Lies}
 use Rattle.recovery.proofs.Finds.{sectors_within}
-use Rattle.history.specs.Steps.{sizes, Memory}
+use Rattle.history.specs.Faults.{Fault}
+use Rattle.history.specs.Steps.{sizes, Memory, serving}
 use Rattle.history.specs.Machine.{Plain, has_chunk, chunk_of, place_of, diverged_at, table_of, can_diverge, with_diverged, diverge, reads_at}
 use Rattle.history.proofs.CopyWrites.{stands_data}
-use Rattle.history.proofs.Ends.{Up}
+use Rattle.history.proofs.Ends.{Up, Turned}
 use Rattle.history.proofs.Invariant.{Covers, Wholes, image_chosen}
 use Rattle.history.proofs.Moves.{Gains}
 use Rattle.history.proofs.Placing.{placed_more, has_chunk_old, has_chunk_more, room_placed}
@@ -91,6 +93,10 @@ module _ (p : Plain) (valid : p.void ≡ false) (d : Disks) (m : Memory) (st : U
 -- the machine's disks with one more diverged chunk
 abbrev pub parted : Plain → ℕ → Plain
 parted p s = with_diverged p (p.diverged ++ (chunk_of p s ∷ []))
+
+-- steps by which it diverges, and which answer the longer list
+abbrev pub Parts : Plain → ℕ → Told Fault (List Exception) → Disks → Type 0
+Parts p s = Turned p (parted p s) (serving p.chunk (table_of (parted p s))) (table_of (parted p s))
 
 module _ (p : Plain) (s k : ℕ) (out : diverged_at p s ≡ false) (free : room entries_at_most (sectors p.chunk) (p.size.cow / sectors p.chunk) (table_of p) ≡ Some k) where
   pub diverge_is : diverge p s ≡ parted p s

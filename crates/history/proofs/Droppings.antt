@@ -1,5 +1,5 @@
 -- The last run leaves the list of the COW device.
-use Rattle.std.proofs.Common.{◌≡◌, ℕ, zero, suc, ◌+◌, ◌-◌, ◌*◌, ◌/◌, ◌%◌, ◌<◌, ◌≤◌, true, false, List, [], ◌∷◌, length, sym, ap, ◌∙◌, subst, mod-lt, mul_assoc, arith}
+use Rattle.std.proofs.Common.{◌≡◌, ℕ, zero, suc, ◌+◌, ◌-◌, ◌*◌, ◌/◌, ◌%◌, ◌<◌, ◌≤◌, true, false, List, [], ◌∷◌, length, sym, refl, ap, ◌∙◌, subst, mod-lt, mul_assoc, arith}
 use Rattle.device.specs.Disk.{Disk, writes, flushes, Told, good, refused, Refusal, refusal, Cut}
 use Rattle.device.specs.Plans.{Runs, one, both, cow, Disks, with_side, raised}
 use Rattle.layout.specs.declared.chunk.ChunkSize.{ChunkSize}
@@ -25,7 +25,7 @@ use Rattle.recovery.proofs.Stand.{standing_lies}
 use Rattle.history.specs.Faults.{Fault, store_up, in_store}
 use Rattle.history.specs.Steps.{both_on}
 use Rattle.history.proofs.Fair.{Fair, Fared, fine, lost, fares, asks_fair, then_fair}
-use Rattle.history.proofs.Sides.{Live, WentOff, off_side, three}
+use Rattle.history.proofs.Sides.{Live, WentOff, passed_off}
 use Rattle.history.proofs.Splits.{At, at_store}
 
 -- FAIRNESS
@@ -88,7 +88,7 @@ drops z size (x ∷ xs) {d} {e} {t} some same l stands r = by (did (dropping c l
     broken_drop f is (lost q lost_is off) =
         let three_is : f ≡ refusal 3 q = cc in
         drops_off a.disk
-        (record { fault = store_up (up (refusal 3 q)); told = a.told ∙ ap (raised store_up) (is ∙ ap (λ y. refused (up y)) three_is); number = three cow q; gone = subst (λ y. both_on y ≡ false) (sym a.left) (off_side cow d a.disk off) })
+        (passed_off cow store_up (up (refusal 3 q)) d a.disk refl a.told a.left (is ∙ ap (λ y. refused (up y)) three_is) off)
         a.left data_kept
         (λ after cut. drop_leaves standing_lies dropping_lies z size es d.cow a.disk after a.answer stands a.ran cut)
 

@@ -1,7 +1,7 @@
 -- An open pair between calls, and how a call of it ends.
 use Rattle.std.proofs.Common.{◌≡◌, ℕ, true, false, cond, eqb, ◌⊎◌}
 use Rattle.std.specs.List.{ContainsAt as Has}
-use Rattle.device.specs.Disk.{good, refused}
+use Rattle.device.specs.Disk.{Told, good, refused}
 use Rattle.device.specs.Plans.{Disks}
 use Rattle.recovery.specs.Breaks.{Sure}
 use Rattle.recovery.specs.Standing.{Stands}
@@ -10,6 +10,7 @@ use Rattle.history.specs.Steps.{sizes, both_on, Memory, closed, serving, invalid
 use Rattle.history.specs.History.{Call, reopen, Reply, nothing, Answer}
 use Rattle.history.specs.Machine.{Plain, table_of, performed, broken_off, Agrees}
 use Rattle.history.proofs.Invariant.{Covers, Wholes, CutBoth, covers_fewer, cut_fewer}
+use Rattle.history.proofs.Sides.{WentOff}
 
 -- what an open pair remembers
 abbrev pub open_memory : Plain → Memory
@@ -29,6 +30,11 @@ pub record Down (p : Plain) (c : Call) (d : Disks) : Type 0 where
   pub sectors : sizes d ≡ p.size
   pub gone : both_on d ≡ false
   pub survives : (e : Disks) → CutBoth d e → (came : Plain) × Has (broken_off p c) came × Covers came e
+
+-- how steps end that turn p into q: the pair is there, and they answer a; or a device went, and then it is p or q
+pub data Turned {A : Type 0} (p q : Plain) (m : Memory) (a : A) (t : Told Fault A) (e : Disks) : Type 0 where
+  turned : t ≡ good a → Up q m e → Turned p q m a t e
+  turned_off : WentOff t e → ((x : Disks) → CutBoth e x → Covers p x ⊎ Covers q x) → Turned p q m a t e
 
 -- how a call ends that no test refused, where the machine wants an answer: good; refused without a change; or a device went
 pub data Ends (p : Plain) (c : Call) (want : Answer) (a : Answer) (m : Memory) (d : Disks) : Type 0 where

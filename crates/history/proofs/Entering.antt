@@ -26,12 +26,12 @@ use Rattle.recovery.proofs.Zeros.{flushed_good, stored_good, then_good}
 use Rattle.history.specs.Faults.{Fault, gone_fault, store_up, in_store}
 use Rattle.history.specs.Steps.{sizes, both_on, serving}
 use Rattle.history.specs.Machine.{Plain, chunk_of, diverged_at, table_of, reads_at}
-use Rattle.history.proofs.Copying.{in_whole_chunk, parted, parted_table, parted_here, parted_else, parted_covers}
-use Rattle.history.proofs.Ends.{Up}
+use Rattle.history.proofs.Copying.{in_whole_chunk, parted, parted_table, parted_here, parted_else, parted_covers, Parts}
+use Rattle.history.proofs.Ends.{Up, turned, turned_off}
 use Rattle.history.proofs.Fair.{Fared, fine, lost, fares}
 use Rattle.history.proofs.Fairs.{entering_fair}
 use Rattle.history.proofs.Invariant.{Chosen, Covers, Wholes, CutBoth, cut_fewer, single_is, image_chosen}
-use Rattle.history.proofs.Sides.{Live, live, WentOff, off_side}
+use Rattle.history.proofs.Sides.{Live, live, passed_off}
 use Rattle.history.proofs.Splits.{At, at_store}
 use Rattle.history.proofs.Spots.{reads_origin, reads_copy}
 use Rattle.history.proofs.Standings.{stands_lists, in_copy_data, single_choice}
@@ -184,12 +184,8 @@ module _ (p : Plain) (valid : p.void ≡ false) (d : Disks) (st : Up p (serving 
         (entering_leaves standing_lies p.size p.chunk (table_of p) new_one d.cow w e.cow t stand listed_longer run cut.cow))
         (entering_order p.size p.chunk (table_of p) new_one d.cow w t stand listed_longer run)
 
-  -- how entering ends: the chunk has diverged; or a device went, and then it has or has not
-  pub data EnteredBoth (t : Told Fault (List Exception)) (e : Disks) : Type 0 where
-    entered_good : t ≡ good (table_of (parted p s)) → Up (parted p s) (serving p.chunk (table_of (parted p s))) e → EnteredBoth t e
-    entered_off : WentOff t e → ((x : Disks) → CutBoth e x → Covers p x ⊎ Covers (parted p s) x) → EnteredBoth t e
-
-  pub entered_both : {t : Told Fault (List Exception)} {e : Disks} → Runs both (in_store (enter (shape_of p.size p.chunk) (table_of p) (chunk_of p s))) d t e → EnteredBoth t e
+  -- the chunk has diverged; or a device went, and then it has or has not
+  pub entered_both : {t : Told Fault (List Exception)} {e : Disks} → Runs both (in_store (enter (shape_of p.size p.chunk) (table_of p) (chunk_of p s))) d t e → Parts p s t e
   entered_both {t} {e} r = by (did (entering (sectors p.chunk) longer (length (table_of p))) longer a.answer d.cow a.disk (subst (λ q. Runs one q d.cow a.answer a.disk) enter_is a.ran))
     where
       a : At StoreRefusal (List Exception) cow (enter (shape_of p.size p.chunk) (table_of p) (chunk_of p s)) store_up d t e
@@ -201,20 +197,20 @@ module _ (p : Plain) (valid : p.void ≡ false) (d : Disks) (st : Up p (serving 
       fared : {u : Told Refusal (Unit {0})} → Runs one (entering (sectors p.chunk) longer (length (table_of p))) d.cow u a.disk → Fared u a.disk
       fared run = fares (subst (λ n. Rattle.history.proofs.Fair.Fair n (entering (sectors p.chunk) longer (length (table_of p)))) (sym cow_count) (entering_fair p.size p.chunk (table_of p) longer k stand.listed free)) (alive.long cow) (alive.on cow) run
 
-      good_by : Runs one (entering (sectors p.chunk) longer (length (table_of p))) d.cow (good tt) a.disk → a.answer ≡ good longer → Fared {A = Unit {0}} (good tt) a.disk → EnteredBoth t e
+      good_by : Runs one (entering (sectors p.chunk) longer (length (table_of p))) d.cow (good tt) a.disk → a.answer ≡ good longer → Fared {A = Unit {0}} (good tt) a.disk → Parts p s t e
       good_by run is (fine u told on long) =
-          entered_good (a.told ∙ ap (raised store_up) is ∙ ap good (sym (parted_table p s k out free)))
+          turned (a.told ∙ ap (raised store_up) is ∙ ap good (sym (parted_table p s k out free)))
           (subst (Up (parted p s) _) (sym a.left) (entered_up a.disk run on (subst Wholes a.left (wholes_stay r st.whole))))
       good_by run is (lost q told off) = cc
 
-      off_by : (f : Refusal) → Runs one (entering (sectors p.chunk) longer (length (table_of p))) d.cow (refused f) a.disk → a.answer ≡ refused (up f) → Fared {A = Unit {0}} (refused f) a.disk → EnteredBoth t e
+      off_by : (f : Refusal) → Runs one (entering (sectors p.chunk) longer (length (table_of p))) d.cow (refused f) a.disk → a.answer ≡ refused (up f) → Fared {A = Unit {0}} (refused f) a.disk → Parts p s t e
       off_by f run is (fine u told on long) = cc
       off_by f run is (lost q told off) =
           let three : f ≡ refusal 3 q = cc in
-          entered_off
-          (record { fault = gone_fault 2 q; told = a.told ∙ ap (raised store_up) (is ∙ ap (λ y. refused (up y)) three); number = refl; gone = subst (λ y. both_on y ≡ false) (sym a.left) (off_side cow d a.disk off) })
+          turned_off
+          (passed_off cow store_up (up (refusal 3 q)) d a.disk refl a.told a.left (is ∙ ap (λ y. refused (up y)) three) off)
           (λ x cut. entered_survives a.disk (refused f) run x (subst (λ y. CutBoth y x) a.left cut))
 
-      by : Did (entering (sectors p.chunk) longer (length (table_of p))) longer a.answer d.cow a.disk → EnteredBoth t e
+      by : Did (entering (sectors p.chunk) longer (length (table_of p))) longer a.answer d.cow a.disk → Parts p s t e
       by (went run is) = good_by run is (fared run)
       by (broke f run is) = off_by f run is (fared run)

@@ -3,26 +3,26 @@ use Rattle.std.proofs.Common.{◌≡◌, ℕ, ◌/◌, ◌<◌, Bool, true, fals
 use Rattle.std.specs.List.{ContainsAt as Has}
 use Rattle.std.proofs.ByRecursion.{has_push, has_append_left}
 use Rattle.std.proofs.lemmas.Bool.{cases_Bool, or_from, or_left, or_right, cond-true, cond-false, true≢false}
-use Rattle.device.specs.Disk.{Bytes, good, refused}
-use Rattle.device.specs.Plans.{Runs, both, cow, Disks}
+use Rattle.device.specs.Disk.{Bytes, Told, good, refused}
+use Rattle.device.specs.Plans.{Plan, Runs, both, Side, cow, Disks}
 use Rattle.layout.specs.declared.exception.Exception.{Exception}
 use Rattle.layout.specs.Chunks.{sectors}
 use Rattle.exceptions.specs.Table.{entries_at_most, lookup, room}
 use Rattle.store.specs.Steps.{spoiling}
-use Rattle.history.specs.Faults.{Fault, at_side}
+use Rattle.history.specs.Faults.{Fault, Moves, at_side}
 use Rattle.history.specs.Steps.{sizes, Memory, serving, invalid, ground, Outcome, after, next_free, copying, origin_put, origin_diverging, origin_served, origin_writing}
 use Rattle.history.specs.History.{Call, write_origin, Reply, became_invalid, Answer, replied}
 use Rattle.history.specs.Machine.{Plain, added, perhaps, chunk_of, diverged_at, table_of, can_diverge, finds_full, voided, diverge, on_origin, on_view, ready, performed, broken_off}
 use Rattle.history.proofs.Changes.{perhaps_widens, origin_covers, changed_else, changed_grows, apart}
 use Rattle.history.proofs.Copying.{parted, diverge_is, parted_here}
-use Rattle.history.proofs.Ends.{open_memory, Up, Ends, good_end, off_end, down_by}
+use Rattle.history.proofs.Ends.{open_memory, Up, Turned, turned, turned_off, Ends, good_end, off_end, down_by}
 use Rattle.history.proofs.Invariant.{Covers, Wholes, CutBoth}
-use Rattle.history.proofs.Parting.{Parts, parts_good, parts_off, parts}
+use Rattle.history.proofs.Parting.{parts}
 use Rattle.history.proofs.Placing.{room_placed}
 use Rattle.history.proofs.Putting.{Puts, wrote, fell, origin_puts}
 use Rattle.history.proofs.Sides.{WentOff}
 use Rattle.history.proofs.Splits.{After, after_parts}
-use Rattle.history.proofs.Spoiling.{Spoils, spoils_good, spoils_off, spoils}
+use Rattle.history.proofs.Spoiling.{spoils}
 use Rattle.history.proofs.Spots.{uncopied, copy_diverged}
 use Rattle.history.proofs.Wholes.{wholes_stay, sizes_stay}
 
@@ -76,6 +76,25 @@ module _ (p : Plain) (d : Disks) {m₀ : Memory} (up : Up p m₀ d) (e : Disks) 
       off_end g (ap (λ y. replied f y.answer) is) (ap (λ y. y.number) same ∙ off.number)
       (record { whole = whole; sectors = sized ∙ up.agrees.sectors; gone = off.gone; survives = λ x cut. ⊎_elim (λ c. (p, one, c)) (λ c. (q, two, c)) (survives x cut) })
 
+  -- a call whose steps turn p into q, and whose last one makes it w: broken off it may have come to r
+  pub turn_ends : {B : Type 0} (c : Call) (a : A) (m m' : Memory) (q w r : Plain) (y : B) (steps : Moves B) (k : B → Plan Side (Outcome A)) → performed p c ≡ w → Has (broken_off p c) p → Has (broken_off p c) r → ((t : Told Fault B) (u : Disks) → Runs both steps d t u → Turned p q m' y t u) → ((x : Disks) → Covers q x → Covers r x) → ((mid : Disks) → Up q m' mid → Runs both (k y) mid o e → Puts a m' w r o e) → Runs both (after m steps k) d o e → Ends p c (good (f a)) (replied f o.answer) o.memory e
+  turn_ends {B} c a m m' q w r y steps k same one two turns widens puts run = by (after_parts m steps k run)
+    where
+      Wanted : Type 0
+      Wanted = Ends p c (good (f a)) (replied f o.answer) o.memory e
+
+      off_by : (g : Fault) → o ≡ record { answer = refused g; memory = m } → Turned p q m' y (refused g) e → Wanted
+      off_by g is (turned told u) = cc
+      off_by g is (turned_off off survives) = off_two c (good (f a)) m r one two off is (λ x cut. ⊎_elim inl (λ z. inr (widens x z)) (survives x cut))
+
+      good_by : (b : B) (mid : Disks) → Runs both (k b) mid o e → Turned p q m' y (good b) mid → Wanted
+      good_by b mid rest (turned told u) = let is : b ≡ y = cc in ends_by c a m' w r same two (puts mid u (subst (λ b. Runs both (k b) mid o e) is rest))
+      good_by b mid rest (turned_off off survives) = cc
+
+      by : After m steps k d o e → Wanted
+      by (After.stopped g first is) = off_by g is (turns _ _ first)
+      by (After.went_on b mid first rest) = good_by b mid rest (turns _ _ first)
+
 -- ORIGIN WRITES
 
 module _ (p : Plain) (d : Disks) (s : ℕ) (b : Bytes) (k : ℕ) (here : s < p.size.origin) (long : length b ≡ 512) (o : Outcome Bool) (e : Disks) where
@@ -115,69 +134,33 @@ module _ (p : Plain) (d : Disks) (s : ℕ) (b : Bytes) (k : ℕ) (here : s < p.s
 
     -- the chunk is copied first
     with_room : (place : ℕ) → room entries_at_most (sectors p.chunk) (p.size.cow / sectors p.chunk) (table_of p) ≡ Some place → Runs both (after (serving p.chunk (table_of p)) (copying (ground d) p.chunk (table_of p) (chunk_of p s) place) (λ more. origin_put (serving p.chunk more) s b false)) d o e → Done
-    with_room place free r = told_by false (full_by true can) (by (after_parts (serving p.chunk (table_of p)) (copying (ground d) p.chunk (table_of p) (chunk_of p s) place) (λ more. origin_put (serving p.chunk more) s b false) r))
-      where
-        can : can_diverge p ≡ true
-        can = place_can p place free
-
-        same : ready p s ≡ parted p s
-        same = readied true can ∙ diverge_is p s place out free
-
-        div : (parted p s).void ≡ false → diverged_at (parted p s) s ≡ true
-        div v = copy_diverged (parted p s) s place (parted_here p s place out free s refl)
-
-        Without : Type 0
-        Without = Ends p (write_origin s b k) (good (became_invalid false)) (replied became_invalid o.answer) o.memory e
-
-        off_by : (f : Fault) → o ≡ record { answer = refused f; memory = serving p.chunk (table_of p) } → Parts p valid d up s here out place free (refused f) e → Without
-        off_by f is (parts_good told u) = cc
-        off_by f is (parts_off off survives) =
-            off_two p d up e became_invalid o (wholes_stay r up.whole) (sizes_stay r) (write_origin s b k) (good (became_invalid false)) (serving p.chunk (table_of p)) (on_origin (perhaps b) s (parted p s)) first_one (second (parted p s) same) off is
-            (λ x cut. ⊎_elim inl (λ c. inr (wider_origin (parted p s) x s b div c)) (survives x cut))
-
-        good_by : (more : List Exception) (mid : Disks) → Runs both (origin_put (serving p.chunk more) s b false) mid o e → Parts p valid d up s here out place free (good more) mid → Without
-        good_by more mid rest (parts_good told u) =
-            let is : more ≡ table_of (parted p s) = cc in
-            ends_by p d up e became_invalid o (wholes_stay r up.whole) (sizes_stay r) (write_origin s b k) false (serving p.chunk (table_of (parted p s))) (on_origin (added b) s (parted p s)) (on_origin (perhaps b) s (parted p s))
-            (ap (on_origin (added b) s) same) (second (parted p s) same)
-            (origin_puts false (parted p s) mid _ u s b here long div o e (subst (λ l. Runs both (origin_put (serving p.chunk l) s b false) mid o e) is rest))
-        good_by more mid rest (parts_off off survives) = cc
-
-        by : After (serving p.chunk (table_of p)) (copying (ground d) p.chunk (table_of p) (chunk_of p s) place) (λ more. origin_put (serving p.chunk more) s b false) d o e → Without
-        by (After.stopped f run is) = off_by f is (parts p valid d up s here out place free run)
-        by (After.went_on more mid run rest) = good_by more mid rest (parts p valid d up s here out place free run)
+    with_room place free r =
+        let can = place_can p place free in
+        let same = readied true can ∙ diverge_is p s place out free in
+        let div : diverged_at (parted p s) s ≡ true = copy_diverged (parted p s) s place (parted_here p s place out free s refl) in
+        told_by false (full_by true can)
+        (turn_ends p d up e became_invalid o (wholes_stay r up.whole) (sizes_stay r) (write_origin s b k) false (serving p.chunk (table_of p)) (serving p.chunk (table_of (parted p s))) (parted p s) (on_origin (added b) s (parted p s)) (on_origin (perhaps b) s (parted p s))
+        (table_of (parted p s)) (copying (ground d) p.chunk (table_of p) (chunk_of p s) place) (λ more. origin_put (serving p.chunk more) s b false)
+        (ap (on_origin (added b) s) same) first_one (second (parted p s) same)
+        (λ t u run. parts p valid d up s here out place free run)
+        (λ x c. wider_origin (parted p s) x s b (λ _. div) c)
+        (λ mid u rest. origin_puts false (parted p s) mid _ u s b here long (λ _. div) o e rest)
+        r)
 
     -- there is no place: the store is spoiled first
     without_room : room entries_at_most (sectors p.chunk) (p.size.cow / sectors p.chunk) (table_of p) ≡ None → Runs both (after (serving p.chunk (table_of p)) (at_side cow (spoiling (sectors p.chunk))) (λ _. origin_put invalid s b true)) d o e → Done
-    without_room none r = told_by true (full_by false cannot) (by (after_parts (serving p.chunk (table_of p)) (at_side cow (spoiling (sectors p.chunk))) (λ _. origin_put invalid s b true) r))
-      where
-        cannot : can_diverge p ≡ false
-        cannot = no_place_cannot p none
-
-        same : ready p s ≡ voided p
-        same = readied false cannot
-
-        div : (voided p).void ≡ false → diverged_at (voided p) s ≡ true
-        div v = absurd (true≢false v)
-
-        With : Type 0
-        With = Ends p (write_origin s b k) (good (became_invalid true)) (replied became_invalid o.answer) o.memory e
-
-        off_by : (f : Fault) → o ≡ record { answer = refused f; memory = serving p.chunk (table_of p) } → Spoils p valid d up (refused f) e → With
-        off_by f is (spoils_good told u) = cc
-        off_by f is (spoils_off off survives) =
-            off_two p d up e became_invalid o (wholes_stay r up.whole) (sizes_stay r) (write_origin s b k) (good (became_invalid true)) (serving p.chunk (table_of p)) (on_origin (perhaps b) s (voided p)) first_one (second (voided p) same) off is
-            (λ x cut. ⊎_elim inl (λ c. inr (wider_origin (voided p) x s b div c)) (survives x cut))
-
-        good_by : (mid : Disks) → Runs both (origin_put invalid s b true) mid o e → Spoils p valid d up (good tt) mid → With
-        good_by mid rest (spoils_good told u) =
-            ends_by p d up e became_invalid o (wholes_stay r up.whole) (sizes_stay r) (write_origin s b k) true invalid (on_origin (added b) s (voided p)) (on_origin (perhaps b) s (voided p)) (ap (on_origin (added b) s) same) (second (voided p) same)
-            (origin_puts true (voided p) mid invalid u s b here long div o e rest)
-        good_by mid rest (spoils_off off survives) = cc
-
-        by : After (serving p.chunk (table_of p)) (at_side cow (spoiling (sectors p.chunk))) (λ _. origin_put invalid s b true) d o e → With
-        by (After.stopped f run is) = off_by f is (spoils p valid d up run)
-        by (After.went_on tt mid run rest) = good_by mid rest (spoils p valid d up run)
+    without_room none r =
+        let cannot = no_place_cannot p none in
+        let same = readied false cannot in
+        let div : (voided p).void ≡ false → diverged_at (voided p) s ≡ true = λ v. absurd (true≢false v) in
+        told_by true (full_by false cannot)
+        (turn_ends p d up e became_invalid o (wholes_stay r up.whole) (sizes_stay r) (write_origin s b k) true (serving p.chunk (table_of p)) invalid (voided p) (on_origin (added b) s (voided p)) (on_origin (perhaps b) s (voided p))
+        tt (at_side cow (spoiling (sectors p.chunk))) (λ _. origin_put invalid s b true)
+        (ap (on_origin (added b) s) same) first_one (second (voided p) same)
+        (λ t u run. spoils p valid d up run)
+        (λ x c. wider_origin (voided p) x s b div c)
+        (λ mid u rest. origin_puts true (voided p) mid invalid u s b here long div o e rest)
+        r)
 
     by_room : (place : Option ℕ) → room entries_at_most (sectors p.chunk) (p.size.cow / sectors p.chunk) (table_of p) ≡ place → Runs both (origin_diverging (ground d) p.chunk (table_of p) s b place) d o e → Done
     by_room None is r = without_room is r

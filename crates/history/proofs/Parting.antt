@@ -12,9 +12,9 @@ use Rattle.recovery.proofs.Finds.{sectors_within}
 use Rattle.history.specs.Faults.{Fault, Moves, at_side, in_store}
 use Rattle.history.specs.Steps.{sizes, serving, ground, copying}
 use Rattle.history.specs.Machine.{Plain, has_chunk, chunk_of, diverged_at, table_of}
-use Rattle.history.proofs.Copying.{in_whole_chunk, free_covers, free_up, parted}
-use Rattle.history.proofs.Ends.{Up}
-use Rattle.history.proofs.Entering.{EnteredBoth, entered_good, entered_off, entered_both}
+use Rattle.history.proofs.Copying.{in_whole_chunk, free_covers, free_up, Parts}
+use Rattle.history.proofs.Ends.{Up, turned_off}
+use Rattle.history.proofs.Entering.{entered_both}
 use Rattle.history.proofs.Fairs.{chunk_on}
 use Rattle.history.proofs.Gathered.{Long, length_gathered, part_gathered}
 use Rattle.history.proofs.Invariant.{Covers, Wholes, CutBoth, covers_fewer, cut_fewer}
@@ -27,14 +27,9 @@ use Rattle.history.proofs.Through.{at_data}
 use Rattle.history.proofs.Wholes.{wholes_stay, sizes_stay}
 
 module _ (p : Plain) (valid : p.void ≡ false) (d : Disks) (up : Up p (serving p.chunk (table_of p)) d) (s : ℕ) (here : s < p.size.origin) (out : diverged_at p s ≡ false) (k : ℕ) (free : room entries_at_most (sectors p.chunk) (p.size.cow / sectors p.chunk) (table_of p) ≡ Some k) where
-  -- how it ends: the chunk has diverged; or a device went, and then it has or has not
-  pub data Parts (t : Told Fault (List Exception)) (e : Disks) : Type 0 where
-    parts_good : t ≡ good (table_of (parted p s)) → Up (parted p s) (serving p.chunk (table_of (parted p s))) e → Parts t e
-    parts_off : WentOff t e → ((x : Disks) → CutBoth e x → Covers p x ⊎ Covers (parted p s) x) → Parts t e
-
   -- nothing of the machine's disks has changed
-  still : {t : Told Fault (List Exception)} {e : Disks} → WentOff t e → Covers p e → Parts t e
-  still w cover = parts_off w (λ x cut. inl (covers_fewer cover (cut_fewer cut.origin) (cut_fewer cut.cow)))
+  still : {t : Told Fault (List Exception)} {e : Disks} → WentOff t e → Covers p e → Parts p s t e
+  still w cover = turned_off w (λ x cut. inl (covers_fewer cover (cut_fewer cut.origin) (cut_fewer cut.cow)))
 
   place : (is_data (sectors p.chunk) k ≡ true) × (k < p.size.cow / sectors p.chunk) × ((j : ℕ) → lookup (table_of p) j ≡ Some k → ⊥)
   place = room_free p.size p.chunk (table_of p) (subst (λ z. z.cow < 2 ^ 32) up.agrees.sectors up.whole.cow.few) (up.stands valid).listed k free
@@ -65,10 +60,6 @@ module _ (p : Plain) (valid : p.void ≡ false) (d : Disks) (up : Up p (serving 
         there (t % n) low ∙ part_gathered (image d.origin) n (chunk_of p s * n) (t % n) long low ∙ ap (image d.origin) at
         ∙ up.agrees.origin t l ∙ sym (ap (λ q. q.latest) (up.covers.shared valid t l (ap (λ x. has_chunk p.diverged x) is ∙ out)))
 
-  by_entered : (w : Disk) (up₁ : Up p (serving p.chunk (table_of p)) (with_side cow d w)) (fill : (t : ℕ) → t < p.size.origin → chunk_of p t ≡ chunk_of p s → image w (in_copy (sectors p.chunk) k t) ≡ (p.view t).latest) {t : Told Fault (List Exception)} {e : Disks} → EnteredBoth p valid (with_side cow d w) up₁ s here out k free fill t e → Parts t e
-  by_entered w up₁ fill (entered_good is u) = parts_good is u
-  by_entered w up₁ fill (entered_off off x) = parts_off off x
-
   -- THE STEPS
 
   abbrev entering_plan : Moves (List Exception)
@@ -86,25 +77,25 @@ module _ (p : Plain) (valid : p.void ≡ false) (d : Disks) (up : Up p (serving 
   same_cow : {e : Disks} (w : Disk) → e ≡ with_side cow d w → sizes e ≡ sizes d → w.count ≡ d.cow.count
   same_cow w left is = ap (λ y. y.cow.count) (sym left) ∙ ap (λ z. z.cow) is
 
-  writing_parts : {t : Told Fault (List Exception)} {e : Disks} → Runs both (writing_plan bytes) d t e → Parts t e
+  writing_parts : {t : Told Fault (List Exception)} {e : Disks} → Runs both (writing_plan bytes) d t e → Parts p s t e
   writing_parts {t} {e} r = by (then_parts (at_side cow (spreading (k * sectors p.chunk) (sectors p.chunk) bytes)) (λ _. entering_plan) r)
     where
       spread : {u : Told Fault (Unit {0})} {y : Disks} → Runs both (at_side cow (spreading (k * sectors p.chunk) (sectors p.chunk) bytes)) d u y → SpreadBoth cow d (k * sectors p.chunk) (sectors p.chunk) bytes u y
       spread run = spreads_side cow (sectors p.chunk) (k * sectors p.chunk) bytes (alive p d _ up) place_here size_long run
 
-      off_by : (f : Fault) → Runs both (at_side cow (spreading (k * sectors p.chunk) (sectors p.chunk) bytes)) d (refused f) e → t ≡ refused f → SpreadBoth cow d (k * sectors p.chunk) (sectors p.chunk) bytes (refused f) e → Parts t e
+      off_by : (f : Fault) → Runs both (at_side cow (spreading (k * sectors p.chunk) (sectors p.chunk) bytes)) d (refused f) e → t ≡ refused f → SpreadBoth cow d (k * sectors p.chunk) (sectors p.chunk) bytes (refused f) e → Parts p s t e
       off_by f run is (spreads_good w told left on lng here' else gains) = cc
       off_by f run is (spreads_off w off left gains) = still (off_as is off) (subst (Covers p) (sym left) (free_covers p valid d _ up k place.0 place.2 bytes w (same_cow w left (sizes_stay run)) gains))
 
-      good_by : (mid : Disks) → Runs both (at_side cow (spreading (k * sectors p.chunk) (sectors p.chunk) bytes)) d (good tt) mid → Runs both entering_plan mid t e → SpreadBoth cow d (k * sectors p.chunk) (sectors p.chunk) bytes (good tt) mid → Parts t e
+      good_by : (mid : Disks) → Runs both (at_side cow (spreading (k * sectors p.chunk) (sectors p.chunk) bytes)) d (good tt) mid → Runs both entering_plan mid t e → SpreadBoth cow d (k * sectors p.chunk) (sectors p.chunk) bytes (good tt) mid → Parts p s t e
       good_by mid run rest (spreads_good w told left on lng there else gains) =
           let same = same_cow w left (sizes_stay run) in
           let up₁ = free_up p valid d _ up k place.0 place.2 bytes w same gains else on (and_parts d.origin.on d.cow.on up.agrees.on).0 (subst Wholes left (wholes_stay run up.whole)) in
           let fill = filled w same there in
-          by_entered w up₁ fill (entered_both p valid (with_side cow d w) up₁ s here out k free fill (with_sizes (subst (λ y. Runs both entering_plan y t e) left rest)))
+          entered_both p valid (with_side cow d w) up₁ s here out k free fill (with_sizes (subst (λ y. Runs both entering_plan y t e) left rest))
       good_by mid run rest (spreads_off w off left gains) = cc
 
-      by : Then (at_side cow (spreading (k * sectors p.chunk) (sectors p.chunk) bytes)) (λ _. entering_plan) d t e → Parts t e
+      by : Then (at_side cow (spreading (k * sectors p.chunk) (sectors p.chunk) bytes)) (λ _. entering_plan) d t e → Parts p s t e
       by (Then.stopped f run is) = off_by f run is (spread run)
       by (Then.went_on tt mid run rest) = good_by mid run rest (spread run)
 
@@ -114,22 +105,22 @@ module _ (p : Plain) (valid : p.void ≡ false) (d : Disks) (up : Up p (serving 
       let on_cow : k < (sizes d).cow / sectors p.chunk = subst (λ z. k < z.cow / sectors p.chunk) (sym up.agrees.sectors) place.1 in
       λ i. then (at_side origin (gathering (chunk_of p s * sectors p.chunk) (sectors p.chunk) [])) (λ b. then (at_data (sizes d) p.chunk k (spreading (k * sectors p.chunk) (sectors p.chunk) b) place.0 on_cow i) (λ _. entering_plan))
 
-  pub parts : {t : Told Fault (List Exception)} {e : Disks} → Runs both (copying (ground d) p.chunk (table_of p) (chunk_of p s) k) d t e → Parts t e
+  pub parts : {t : Told Fault (List Exception)} {e : Disks} → Runs both (copying (ground d) p.chunk (table_of p) (chunk_of p s) k) d t e → Parts p s t e
   parts {t} {e} r = by (then_parts (at_side origin (gathering (chunk_of p s * sectors p.chunk) (sectors p.chunk) [])) writing_plan (subst (λ q. Runs both q d t e) copying_is r))
     where
       got : {u : Told Fault Bytes} {y : Disks} → Runs both (at_side origin (gathering (chunk_of p s * sectors p.chunk) (sectors p.chunk) [])) d u y → ReadBoth d bytes u y
       got run = reads_chunk origin (sectors p.chunk) (chunk_of p s * sectors p.chunk) (alive p d _ up) chunk_here run
 
-      off_by : (f : Fault) → t ≡ refused f → ReadBoth d bytes (refused f) e → Parts t e
+      off_by : (f : Fault) → t ≡ refused f → ReadBoth d bytes (refused f) e → Parts p s t e
       off_by f is (reads_good told same) = cc
       off_by f is (reads_off off few) = still (off_as is off) (covers_fewer up.covers few.origin few.cow)
 
-      good_by : (b : Bytes) (mid : Disks) → Runs both (writing_plan b) mid t e → ReadBoth d bytes (good b) mid → Parts t e
+      good_by : (b : Bytes) (mid : Disks) → Runs both (writing_plan b) mid t e → ReadBoth d bytes (good b) mid → Parts p s t e
       good_by b mid rest (reads_good told same) =
           let is : b ≡ bytes = cc in
           writing_parts (subst (λ y. Runs both (writing_plan bytes) y t e) same (subst (λ x. Runs both (writing_plan x) mid t e) is rest))
       good_by b mid rest (reads_off off few) = cc
 
-      by : Then (at_side origin (gathering (chunk_of p s * sectors p.chunk) (sectors p.chunk) [])) writing_plan d t e → Parts t e
+      by : Then (at_side origin (gathering (chunk_of p s * sectors p.chunk) (sectors p.chunk) [])) writing_plan d t e → Parts p s t e
       by (Then.stopped f run is) = off_by f is (got run)
       by (Then.went_on b mid run rest) = good_by b mid rest (got run)

@@ -56,13 +56,12 @@ pub three : (x : Side) (q : ℕ) → (passed_up x (refusal 3 q)).number ≡ 3
 three origin q = refl
 three cow q = refl
 
+-- steps at one device were refused by what passes up as a 3, and the device is off
+pub passed_off : {F A : Type 0} (x : Side) (up : F → Fault) (f : F) (d : Disks) (w : Disk) {t : Told Fault A} {e : Disks} {u : Told F A} → (up f).number ≡ 3 → t ≡ raised up u → e ≡ with_side x d w → u ≡ refused f → w.on ≡ false → WentOff t e
+passed_off x up f d w number told left is off = record { fault = up f; told = told ∙ ap (raised up) is; number = number; gone = subst (λ y. both_on y ≡ false) (sym left) (off_side x d w off) }
+
 pub went_off : {A : Type 0} (x : Side) (d : Disks) (w : Disk) (q : ℕ) {t : Told Fault A} {e : Disks} {u : Told Refusal A} → t ≡ raised (passed_up x) u → e ≡ with_side x d w → u ≡ refused (refusal 3 q) → w.on ≡ false → WentOff t e
-went_off x d w q told left is off = record {
-  fault = passed_up x (refusal 3 q);
-  told = told ∙ ap (raised (passed_up x)) is;
-  number = three x q;
-  gone = subst (λ y. both_on y ≡ false) (sym left) (off_side x d w off);
-}
+went_off x d w q told left is off = passed_off x (passed_up x) (refusal 3 q) d w (three x q) told left is off
 
 -- a device went inside the first steps, and so inside all
 pub off_as : {A B : Type 0} {t : Told Fault B} {f : Fault} {e : Disks} → t ≡ refused f → WentOff {A = A} (refused f) e → WentOff t e

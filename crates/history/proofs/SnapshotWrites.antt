@@ -15,8 +15,8 @@ use Rattle.history.specs.History.{write_snapshot, write_merging, nothing, replie
 use Rattle.history.specs.Machine.{Plain, added, perhaps, chunk_of, diverged_at, table_of, can_diverge, diverge, on_origin, on_view, broken_off}
 use Rattle.history.proofs.Copying.{parted, diverge_is, parted_here}
 use Rattle.history.proofs.Ends.{Up, Ends, kept_end}
-use Rattle.history.proofs.OriginWrites.{place_can, no_place_cannot, first_of, second_of, wider_view, ends_by, off_two, free_by}
-use Rattle.history.proofs.Parting.{Parts, parts_good, parts_off, parts}
+use Rattle.history.proofs.OriginWrites.{place_can, no_place_cannot, first_of, second_of, wider_view, ends_by, turn_ends, free_by}
+use Rattle.history.proofs.Parting.{parts}
 use Rattle.history.proofs.Putting.{shared_puts, copy_puts}
 use Rattle.history.proofs.Splits.{After, after_parts}
 use Rattle.history.proofs.Spots.{uncopied, copy_diverged}
@@ -54,38 +54,21 @@ module _ (p : Plain) (d : Disks) (s : ℕ) (b : Bytes) (k : ℕ) (valid : p.void
 
     -- the chunk is copied first
     with_room : (place : ℕ) → room entries_at_most (sectors p.chunk) (p.size.cow / sectors p.chunk) (table_of p) ≡ Some place → Runs both (after (serving p.chunk (table_of p)) (copying (ground d) p.chunk (table_of p) (chunk_of p s) place) (λ more. copy_put (ground d) p.chunk more s b place)) d o e → Wanted
-    with_room place free r = wanted (or_right (diverged_at p s) _ (place_can p place free)) (by (after_parts (serving p.chunk (table_of p)) (copying (ground d) p.chunk (table_of p) (chunk_of p s) place) (λ more. copy_put (ground d) p.chunk more s b place) r))
-      where
-        same : diverge p s ≡ parted p s
-        same = diverge_is p s place out free
-
-        there : lookup (table_of (parted p s)) (chunk_of p s) ≡ Some place
-        there = parted_here p s place out free s refl
-
-        one : Has (broken_off p (write_snapshot s b k)) p
-        one = subst (λ l. Has l p) (sym two_ways) (first_of p _)
-
-        two : Has (broken_off p (write_snapshot s b k)) (on_view (perhaps b) s (parted p s))
-        two = subst (λ l. Has l (on_view (perhaps b) s (parted p s))) (sym two_ways) (subst (λ y. Has (p ∷ on_view (perhaps b) s y ∷ []) (on_view (perhaps b) s (parted p s))) (sym same) (second_of p _))
-
-        off_by : (f : Fault) → o ≡ record { answer = refused f; memory = serving p.chunk (table_of p) } → Parts p valid d up s here out place free (refused f) e → Good
-        off_by f is (parts_good told u) = cc
-        off_by f is (parts_off off survives) =
-            off_two p d up e (λ _. nothing) o (wholes_stay r up.whole) (sizes_stay r) (write_snapshot s b k) (good nothing) (serving p.chunk (table_of p)) (on_view (perhaps b) s (parted p s)) one two off is
-            (λ x cut. ⊎_elim inl (λ c. inr (wider_view (parted p s) x s b (copy_diverged (parted p s) s place there) c)) (survives x cut))
-
-        good_by : (more : List Exception) (mid : Disks) → Runs both (copy_put (ground d) p.chunk more s b place) mid o e → Parts p valid d up s here out place free (good more) mid → Good
-        good_by more mid rest (parts_good told u) =
-            let is : more ≡ table_of (parted p s) = cc in
-            ends_by p d up e (λ _. nothing) o (wholes_stay r up.whole) (sizes_stay r) (write_snapshot s b k) tt (serving p.chunk (table_of (parted p s))) (on_view (added b) s (parted p s)) (on_view (perhaps b) s (parted p s))
-            (ap (on_view (added b) s) same) two
-            (copy_puts tt (parted p s) valid mid (serving p.chunk (table_of (parted p s))) u s place b long there o e
-            (subst (λ q. Runs both (after (serving p.chunk (table_of (parted p s))) q (λ _. giving (serving p.chunk (table_of (parted p s))) tt)) mid o e) (at_copy p.size p.chunk (table_of (parted p s)) (u.stands valid).listed d up.agrees.sectors (chunk_of p s) place there (only_call (writes (in_copy (sectors p.chunk) place s) b))) (subst (λ l. Runs both (copy_put (ground d) p.chunk l s b place) mid o e) is rest)))
-        good_by more mid rest (parts_off off survives) = cc
-
-        by : After (serving p.chunk (table_of p)) (copying (ground d) p.chunk (table_of p) (chunk_of p s) place) (λ more. copy_put (ground d) p.chunk more s b place) d o e → Good
-        by (After.stopped f run is) = off_by f is (parts p valid d up s here out place free run)
-        by (After.went_on more mid run rest) = good_by more mid rest (parts p valid d up s here out place free run)
+    with_room place free r =
+        let same = diverge_is p s place out free in
+        let there : lookup (table_of (parted p s)) (chunk_of p s) ≡ Some place = parted_here p s place out free s refl in
+        let one : Has (broken_off p (write_snapshot s b k)) p = subst (λ l. Has l p) (sym two_ways) (first_of p _) in
+        let two : Has (broken_off p (write_snapshot s b k)) (on_view (perhaps b) s (parted p s)) = subst (λ l. Has l (on_view (perhaps b) s (parted p s))) (sym two_ways) (subst (λ y. Has (p ∷ on_view (perhaps b) s y ∷ []) (on_view (perhaps b) s (parted p s))) (sym same) (second_of p _)) in
+        let mem = serving p.chunk (table_of (parted p s)) in
+        wanted (or_right (diverged_at p s) _ (place_can p place free))
+        (turn_ends p d up e (λ _. nothing) o (wholes_stay r up.whole) (sizes_stay r) (write_snapshot s b k) tt (serving p.chunk (table_of p)) mem (parted p s) (on_view (added b) s (parted p s)) (on_view (perhaps b) s (parted p s))
+        (table_of (parted p s)) (copying (ground d) p.chunk (table_of p) (chunk_of p s) place) (λ more. copy_put (ground d) p.chunk more s b place)
+        (ap (on_view (added b) s) same) one two
+        (λ t u run. parts p valid d up s here out place free run)
+        (λ x c. wider_view (parted p s) x s b (copy_diverged (parted p s) s place there) c)
+        (λ mid u rest. copy_puts tt (parted p s) valid mid mem u s place b long there o e
+        (subst (λ q. Runs both (after mem q (λ _. giving mem tt)) mid o e) (at_copy p.size p.chunk (table_of (parted p s)) (u.stands valid).listed d up.agrees.sectors (chunk_of p s) place there (only_call (writes (in_copy (sectors p.chunk) place s) b))) rest))
+        r)
 
     -- there is no place: 7, and nothing changes
     without_room : room entries_at_most (sectors p.chunk) (p.size.cow / sectors p.chunk) (table_of p) ≡ None → Runs both (snapshot_diverging (ground d) p.chunk (table_of p) s b None) d o e → Wanted

@@ -20,7 +20,7 @@ use Rattle.recovery.proofs.Zeros.{put_here, settled_single, stored_good}
 use Rattle.history.specs.Faults.{Fault, passed_up, at_side}
 use Rattle.history.specs.Steps.{sizes, serving, invalid}
 use Rattle.history.specs.Machine.{Plain, chunk_of, table_of, voided}
-use Rattle.history.proofs.Ends.{Up}
+use Rattle.history.proofs.Ends.{Up, Turned, turned, turned_off}
 use Rattle.history.proofs.Fair.{Fared, fine, lost, fares}
 use Rattle.history.proofs.Fairs.{spoiling_fair}
 use Rattle.history.proofs.Invariant.{Covers, Spoiled, Wholes, CutBoth, cut_fewer, image_chosen}
@@ -103,19 +103,15 @@ module _ (p : Plain) (valid : p.void ≡ false) (d : Disks) (up : Up p (serving 
     spoils_survive : Covers p e ⊎ Covers (voided p) e
     spoils_survive = ⊎_elim (λ lies. inl (still_valid lies)) (λ is. inr (void_now is)) (spoiling_leaves standing_lies p.size p.chunk (table_of p) d.cow w e.cow t stand run cut.cow)
 
-  -- how spoiling ends: the view is void; or a device went, and then it is or is not
-  pub data Spoils (t : Told Fault (Unit {0})) (e : Disks) : Type 0 where
-    spoils_good : t ≡ good tt → Up (voided p) invalid e → Spoils t e
-    spoils_off : WentOff t e → ((x : Disks) → CutBoth e x → Covers p x ⊎ Covers (voided p) x) → Spoils t e
-
-  pub spoils : {t : Told Fault (Unit {0})} {e : Disks} → Runs both (at_side cow (spoiling (sectors p.chunk))) d t e → Spoils t e
+  -- the view is void; or a device went, and then it is or is not
+  pub spoils : {t : Told Fault (Unit {0})} {e : Disks} → Runs both (at_side cow (spoiling (sectors p.chunk))) d t e → Turned p (voided p) invalid tt t e
   spoils {t} {e} r = by (fares (spoiling_fair d.cow.count p.chunk up.whole.cow.some) ((alive p d _ up).long cow) ((alive p d _ up).on cow) a.ran)
     where
       a : At Refusal (Unit {0}) cow (spoiling (sectors p.chunk)) (passed_up cow) d t e
       a = at_one cow (spoiling (sectors p.chunk)) r
 
-      by : Fared a.answer a.disk → Spoils t e
+      by : Fared a.answer a.disk → Turned p (voided p) invalid tt t e
       by (fine tt is on long) =
-          spoils_good (a.told ∙ ap (raised (passed_up cow)) is)
+          turned (a.told ∙ ap (raised (passed_up cow)) is)
           (subst (Up (voided p) invalid) (sym a.left) (void_up a.disk (subst (λ u. Runs one (spoiling (sectors p.chunk)) d.cow u a.disk) is a.ran) on (subst Wholes a.left (wholes_stay r up.whole))))
-      by (lost q is off) = spoils_off (went_off cow d a.disk q a.told a.left is off) (λ x cut. spoils_survive a.disk a.answer a.ran x (subst (λ y. CutBoth y x) a.left cut))
+      by (lost q is off) = turned_off (went_off cow d a.disk q a.told a.left is off) (λ x cut. spoils_survive a.disk a.answer a.ran x (subst (λ y. CutBoth y x) a.left cut))
