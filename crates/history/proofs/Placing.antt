@@ -56,14 +56,6 @@ has_chunk_more ks k j = found_append (λ n. n) j ks (k ∷ []) ∙ ap (λ b. has
 pub has_chunk_parts : (i : ℕ) (ks : List ℕ) (k : ℕ) → has_chunk ks k ≡ (has_chunk (take i ks) k || has_chunk (drop i ks) k)
 has_chunk_parts i ks k = found_parts (λ n. n) k i ks
 
--- a chunk of the beginning is one of all
-pub has_chunk_take : (i : ℕ) (ks : List ℕ) (k : ℕ) → has_chunk (take i ks) k ≡ true → has_chunk ks k ≡ true
-has_chunk_take i ks k h = has_chunk_parts i ks k ∙ or_left _ _ h
-
--- and so is one of the end
-pub has_chunk_drop : (i : ℕ) (ks : List ℕ) (k : ℕ) → has_chunk (drop i ks) k ≡ true → has_chunk ks k ≡ true
-has_chunk_drop i ks k h = has_chunk_parts i ks k ∙ or_right _ _ h
-
 -- no chunk is in both
 pub has_chunk_apart : (z : Sizes) (size : ChunkSize) (ks : List ℕ) → Listed z size (placed (per_area (sectors size)) 0 ks) → (i k : ℕ) → has_chunk (drop i ks) k ≡ true → has_chunk (take i ks) k ≡ false
 has_chunk_apart z size ks l i k h =

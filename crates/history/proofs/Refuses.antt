@@ -9,35 +9,6 @@ use Rattle.history.specs.Steps.{Memory, Mode, plain, merging, Ground, is_closed,
 use Rattle.history.specs.History.{Call, ask_status, ask_merge, read_origin, read_view, write_origin, write_snapshot, write_merging, flush_all, begin_merge, step_merge, leave_merge, reopen, Reply, Result, resulted, as_call, refusal}
 use Rattle.history.proofs.Splits.{called_parts}
 
--- NUMBERS
-
--- a refusal, if any, is not that of a device that is gone
-abbrev Early : Option Fault → Type 0
-Early None = Unit {0}
-Early (Some f) = eqb f.number 3 ≡ false
-
-one_more : (b : Bool) (f : Fault) (ts : List (Option Fault)) → eqb f.number 3 ≡ false → Early (first ts) → Early (first (test b f ∷ ts))
-one_more true f ts e h = e
-one_more false f ts e h = h
-
-refusal_early : (g : Ground) (m : Memory) (mode : Mode) (c : Call) → Early (refusal g m mode c)
-refusal_early g m mode ask_status = tt
-refusal_early g m mode ask_merge = search one_more depth 9
-refusal_early g m mode (read_origin s n) = search one_more depth 9
-refusal_early g m mode (read_view s n) = search one_more depth 9
-refusal_early g m mode (write_origin s b w) = search one_more depth 9
-refusal_early g m mode (write_snapshot s b w) = search one_more depth 9
-refusal_early g m mode (write_merging s b) = search one_more depth 9
-refusal_early g m plain flush_all = search one_more depth 9
-refusal_early g m merging flush_all = search one_more depth 9
-refusal_early g m mode begin_merge = tt
-refusal_early g m mode (step_merge w) = search one_more depth 9
-refusal_early g m mode leave_merge = tt
-refusal_early g m mode (reopen w) = search one_more depth 9
-
-pub early : (g : Ground) (m : Memory) (mode : Mode) (c : Call) (f : Fault) → refusal g m mode c ≡ Some f → eqb f.number 3 ≡ false
-early g m mode c f is = subst Early is (refusal_early g m mode c)
-
 -- A DEVICE IS GONE
 
 -- the devices of some sectors, one of them gone

@@ -21,6 +21,8 @@ use Rattle.history.specs.Machine.{initial, made, Agrees}
 use Rattle.history.proofs.Fair.{Fared, fine, lost, fares}
 use Rattle.history.proofs.Fairs.{making_fair}
 use Rattle.history.proofs.Invariant.{Covers, Wholes, On, single_is, image_chosen}
+use Rattle.history.proofs.Refuses.{first_passed}
+use Rattle.history.proofs.Refusing.{test_passed}
 use Rattle.history.proofs.Splits.{After, Then, after_parts, then_parts, at_one}
 use Rattle.history.proofs.Standings.{stands_lists}
 use Rattle.history.proofs.Wholes.{wholes_stay, sizes_stay}
@@ -69,14 +71,6 @@ module _ (size : ChunkSize) (start : Situation) (whole : Wholes start.disks) (on
 passed : {A : Type 0} (m : Memory) (t : Option Fault) (p : Plan Side (Outcome A)) {d e : Disks} {a : A} {n : Memory} → Runs both (guarded m t p) d (record { answer = good a; memory = n }) e → (t ≡ None) × Runs both p d (record { answer = good a; memory = n }) e
 passed m None p r = (refl, r)
 passed {A} m (Some f) p {a = a} r = cc (ap (λ y. y.answer) (run_over r).0)
-
-test_none : (b : Bool) (f : Fault) → test b f ≡ None → b ≡ false
-test_none true f h = cc
-test_none false f h = refl
-
-first_none : (b : Bool) (f : Fault) (ts : List (Option Fault)) → first (test b f ∷ ts) ≡ None → b ≡ false
-first_none true f ts h = cc
-first_none false f ts h = refl
 
 -- a good answer of steps at one device is good there
 good_there : {F A : Type 0} (up : F → Fault) (t : Told F A) {a : A} → good a ≡ raised up t → t ≡ good a
@@ -144,7 +138,7 @@ module _ (size : ChunkSize) (d : Disks) where
       let g = passed closed (shape (ground d) (sectors size)) (stepping size) r in
       let x = after_did g.1 in
       let y = both_did x.1.1 in
-      record { shaped = not-false _ (test_none _ _ g.0); memory = x.0; disk = y.0; ran = y.1; left = y.2 }
+      record { shaped = not-false _ (test_passed _ _ g.0); memory = x.0; disk = y.0; ran = y.1; left = y.2 }
 
 sized_did : (o : Option ChunkSize) (d : Disks) {m : Memory} {e : Disks} → Runs both (make_sized (ground d) closed o) d (well m) e → (size : ChunkSize) × (o ≡ Some size) × Did size d m e
 sized_did None d r = cc (ap (λ y. y.answer) (run_over r).0)
@@ -161,7 +155,7 @@ made_on size d w whole on room r = by (fares (making_fair d.count size room) (λ
 pub starts : (c : ℕ) (d : Disks) (start : Situation) → Whole d.origin → Whole d.cow → Made c d start → (size : ChunkSize) × (chunk_size c ≡ Some size) × On (made size start.disks) start
 starts c d start wo wc m =
     let g = passed closed (make_tests (ground d) closed) (make_sized (ground d) closed (chunk_size c)) m.ran in
-    let were = and_parts d.origin.on d.cow.on (not-false _ (first_none _ _ (still_closed closed ∷ []) g.0)) in
+    let were = and_parts d.origin.on d.cow.on (not-false _ (first_passed _ _ (still_closed closed ∷ []) g.0)) in
     let x = sized_did (chunk_size c) d g.1 in
     let size = x.0 in
     let y = x.2 in

@@ -12,7 +12,8 @@ use Rattle.history.specs.History.{Situation, Call, ask_status, ask_merge, read_o
 use Rattle.history.specs.Machine.{Plain, Machine, chunk_of, diverged_at, table_of, can_diverge, finds_full, run_length, opened_by, mode_by, next, ground_of, memory_of, reply, unless_refused, Follows, went, told}
 use Rattle.history.proofs.Invariant.{On, Off, Inv}
 use Rattle.history.proofs.Ends.{open_memory, Up, Down, Ends, good_end, kept_end, off_end, Shut, Reopened, good_open, void_open, off_open}
-use Rattle.history.proofs.Refuses.{early, stopped_at, blind, passing, flush_passed, Tested, not_begun, begun, tested}
+use Rattle.history.proofs.Refusing.{refusal_tells}
+use Rattle.history.proofs.Refuses.{stopped_at, blind, passing, flush_passed, Tested, not_begun, begun, tested}
 
 -- the machine goes along with one call
 abbrev Stepped : Machine → Call → Answer → Situation → Type 0
@@ -67,7 +68,7 @@ module _ {m : Machine} {w e : Situation} {c : Call} {a : Answer} (inv : Inv m w)
   -- a call that a test refused
   by_refusal : (x : Fault) → tests w c ≡ Some x → a ≡ refused x → e ≡ w → Stepped m c a e
   by_refusal x is told_x left =
-      by_end (ap ending told_x ∙ cond-false _ _ not_done (early (ground w.disks) w.memory w.mode c x is)) is told_x (subst (Inv m) (sym left) inv)
+      by_end (ap ending told_x ∙ cond-false _ _ not_done (refusal_tells (ground w.disks) w.memory w.mode c x is).0) is told_x (subst (Inv m) (sym left) inv)
 
   module _ (mode : e.mode ≡ m.mode) where
     -- a call inside which a device went

@@ -146,10 +146,6 @@ lookup_more_other (x ∷ xs) k p j ne = lookup_cons x _ j ∙ ap (cond (eqb x.ol
 pub lookup_take : (es : List Exception) (i k p : ℕ) → lookup (take i es) k ≡ Some p → lookup es k ≡ Some p
 lookup_take es i k p is = ap (λ l. lookup l k) (sym (take-append-drop i es)) ∙ lookup_front (take i es) (drop i es) k p is
 
--- a copy that is not in the beginning is in the end
-pub lookup_dropped : (es : List Exception) (i k p : ℕ) → lookup es k ≡ Some p → lookup (take i es) k ≡ None → lookup (drop i es) k ≡ Some p
-lookup_dropped es i k p is none = sym (lookup_past (take i es) (drop i es) k (sym (lookup_found (take i es) k) ∙ ap is_some none)) ∙ ap (λ l. lookup l k) (take-append-drop i es) ∙ is
-
 -- what is found stands at a place
 pub lookup_at : (es : List Exception) (k p : ℕ) → lookup es k ≡ Some p → (i : ℕ) × (i < length es) × (get_or es i nothing ≡ record { old = k; new = p })
 lookup_at [] k p is = cc
