@@ -6,7 +6,7 @@ mod fault;
 mod run;
 
 use device::{Device, PlainDevice};
-use exceptions::ExceptionTable;
+use exceptions::{ExceptionTable, follows};
 use fault::Fault;
 use layout::Exception;
 use run::Run;
@@ -32,10 +32,6 @@ fn print_runs(rt: &HostRuntime, exceptions: &[Exception]) -> io::Result<()> {
         println!(rt; "  {}", Run(run))?;
     }
     Ok(())
-}
-
-fn follows(a: Exception, b: Exception) -> bool {
-    a.old.checked_add(1) == Some(b.old) && a.new.checked_add(1) == Some(b.new)
 }
 
 // How many bytes differ.

@@ -3,7 +3,7 @@ use Rattle.std.proofs.Common.{◌≡◌, ℕ, ◌+◌, ◌-◌, ◌*◌, ◌/◌
 use borrow.Author.Tests.{not-true, eqb-false}
 use Rattle.std.proofs.lemmas.Bool.{and_parts, and_from, eq-eqb, lt-leb, cond-true, cond-false}
 use Rattle.device.specs.Disk.{Bytes, Disk, Op, Told, Refusal, good, refused}
-use Rattle.device.specs.Plans.{Plan, Runs, one, done, bind, raised, lifted, spreading, reading_into, writing_from}
+use Rattle.device.specs.Plans.{Runs, one, done, bind, raised, lifted, spreading, reading_into, writing_from}
 use Rattle.device.proofs.Gathers.{writes_spread}
 use Rattle.layout.specs.declared.exception.Exception.{Exception}
 use Rattle.exceptions.specs.Table.{entries_at_most, new_at, lookup, has_old, next_place, fills_area, has_room, room, last_run, without_run}

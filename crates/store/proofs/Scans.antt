@@ -1,5 +1,5 @@
 -- The scan, one area and one entry further on.
-use Rattle.std.proofs.Common.{◌≡◌, ℕ, suc, ◌+◌, ◌-◌, ◌*◌, ◌<◌, ◌≤◌, true, false, cond, eqb, leb, List, [], ◌∷◌, ◌++◌, length, Some, None, Option, sym, ap, ◌∙◌, subst, arith}
+use Rattle.std.proofs.Common.{◌≡◌, ℕ, suc, ◌+◌, ◌-◌, ◌*◌, ◌<◌, ◌≤◌, true, false, cond, eqb, leb, List, [], ◌∷◌, ◌++◌, length, sym, ap, ◌∙◌, subst, arith}
 use Rattle.std.proofs.lemmas.Bool.{eq-eqb, ne_eqb, cond-true, cond-false}
 use Rattle.device.specs.Disk.{Bytes, Disk, Told, refused, Refusal}
 use Rattle.device.specs.Plans.{Plan, done, bind, onward, raised, gathering, Filled, reading_into, one, Runs}
@@ -9,7 +9,6 @@ use Rattle.layout.specs.declared.exception.Exception.{Exception}
 use Rattle.layout.specs.Chunks.{per_area, area_start}
 use Rattle.layout.specs.Entries.{nth_entry}
 use Rattle.store.specs.declared.shape.Shape.{Shape}
-use Rattle.store.specs.declared.spot.Spot.{Spot}
 use Rattle.store.specs.Judge.{width, damaged}
 use Rattle.store.specs.Refusals.{StoreRefusal, because, up}
 use Rattle.store.specs.Scanning.{Parsed, full, over, many, wrong, judged, parsed, Ending, concluded, scanning}

@@ -1,5 +1,5 @@
 -- What opening finds on a COW device: one function of what its sectors read.
-use Rattle.std.specs.Prelude.{ℕ, ◌-◌, ◌*◌, ◌/◌, ◌%◌, Bool, true, cond, ◌&&◌, [], ◌∷◌, ◌++◌, length, take, replicate, ◌==◌, nat_le}
+use Rattle.std.specs.Prelude.{ℕ, ◌-◌, ◌*◌, ◌/◌, ◌%◌, Bool, cond, ◌&&◌, ◌++◌, length, take, replicate, ◌==◌, nat_le}
 use Rattle.std.specs.List.{list_all}
 use Rattle.device.specs.Disk.{Bytes, Told, good, refused}
 use Rattle.layout.specs.declared.chunk.ChunkSize.{ChunkSize}

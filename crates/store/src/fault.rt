@@ -5,7 +5,7 @@ ghost use Rattle.store.specs.declared.fault.StoreFault.TheVariants.{Device as Of
 use device::DeviceFault;
 use layout::HeaderFault;
 
-#[derive(Clone, Copy)]
+#[derive(Clone, Copy, Debug, PartialEq, Eq)]
 pub enum StoreFault {
     // the COW device's own
     Device(DeviceFault),

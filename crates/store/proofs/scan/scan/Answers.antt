@@ -1,6 +1,5 @@
-use Rattle.std.proofs.Common.{◌≡◌, ◌+◌, ◌-◌, true, false, leb, [], ◌∷◌, ◌++◌, length, vec_items, sym, refl, ap, ◌∙◌, arith, lt-ltb, leb-false}
+use Rattle.std.proofs.Common.{◌≡◌, ◌+◌, ◌-◌, false, leb, length, vec_items, sym, refl, ap, ◌∙◌, arith}
 use Rattle.std.specs.Option.{ok_or}
-use Rattle.std.proofs.lemmas.Bool.{and_from, cond-true}
 use Rattle.device.proofs.Steps.{same, ◌⨾◌, ends, ends_as}
 use Rattle.layout.specs.Chunks.{per_area}
 use Rattle.store.specs.Judge.{width}
