@@ -15,15 +15,15 @@ use Rattle.recovery.specs.Readings.{image, gathered}
 use Rattle.recovery.specs.Standing.{Within}
 use Rattle.recovery.proofs.Finds.{sectors_within}
 use Rattle.store.specs.Steps.{shape_of, at_chunk}
+use Rattle.recovery.proofs.Gathered.{part, Long, length_gathered, part_gathered}
 use Rattle.history.specs.Faults.{Fault, fault, Moves, at_side, in_store}
 use Rattle.history.specs.Steps.{sizes, ground, serving, chunk_put, copying_back}
 use Rattle.history.specs.Machine.{Plain, has_chunk, chunk_of, place_of, placed, table_of, run_length}
 use Rattle.history.proofs.Ends.{Up}
 use Rattle.history.proofs.Fair.{Readable}
 use Rattle.history.proofs.Fairs.{chunk_on}
-use Rattle.history.proofs.Gathered.{Long, length_gathered, part_gathered}
 use Rattle.history.proofs.Invariant.{Fewer, fewer_refl}
-use Rattle.history.proofs.Moves.{part, Gains}
+use Rattle.history.proofs.Moves.{Gains}
 use Rattle.history.proofs.Partly.{table_length}
 use Rattle.history.proofs.Placing.{placed_drop, has_chunk_more}
 use Rattle.history.proofs.Sides.{Live, FewerBoth, WentOff, live, ReadBoth, reads_good, reads_off, reads_chunk, SpreadBoth, spreads_good, spreads_off, spreads_side, off_as}

@@ -1,5 +1,5 @@
 -- The last run leaves the list of the COW device.
-use Rattle.std.proofs.Common.{◌≡◌, ℕ, zero, suc, ◌+◌, ◌-◌, ◌*◌, ◌/◌, ◌%◌, ◌<◌, ◌≤◌, true, false, List, [], ◌∷◌, length, sym, refl, ap, ◌∙◌, subst, mod-lt, mul_assoc, arith}
+use Rattle.std.proofs.Common.{◌≡◌, ℕ, zero, suc, ◌+◌, ◌-◌, ◌*◌, ◌/◌, ◌%◌, ◌<◌, ◌≤◌, true, List, [], ◌∷◌, length, refl, ap, ◌∙◌, subst, mod-lt, mul_assoc, arith}
 use Rattle.device.specs.Disk.{Disk, writes, flushes, Told, good, refused, Refusal, refusal, Cut}
 use Rattle.device.specs.Plans.{Runs, one, both, cow, Disks, with_side, raised}
 use Rattle.layout.specs.declared.chunk.ChunkSize.{ChunkSize}
@@ -23,7 +23,6 @@ use Rattle.recovery.proofs.Places.{placed}
 use Rattle.recovery.proofs.Sheets.{length_pic}
 use Rattle.recovery.proofs.Stand.{standing_lies}
 use Rattle.history.specs.Faults.{Fault, store_up, in_store}
-use Rattle.history.specs.Steps.{both_on}
 use Rattle.history.proofs.Fair.{Fair, Fared, fine, lost, fares, asks_fair, then_fair}
 use Rattle.history.proofs.Sides.{Live, WentOff, passed_off}
 use Rattle.history.proofs.Splits.{At, at_store}

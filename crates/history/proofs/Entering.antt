@@ -23,8 +23,8 @@ use Rattle.recovery.proofs.Listing.{entering_listed}
 use Rattle.recovery.proofs.Orders.{entering_order}
 use Rattle.recovery.proofs.Stand.{standing_lies}
 use Rattle.recovery.proofs.Zeros.{flushed_good, stored_good, then_good}
-use Rattle.history.specs.Faults.{Fault, gone_fault, store_up, in_store}
-use Rattle.history.specs.Steps.{sizes, both_on, serving}
+use Rattle.history.specs.Faults.{Fault, store_up, in_store}
+use Rattle.history.specs.Steps.{sizes, serving}
 use Rattle.history.specs.Machine.{Plain, chunk_of, diverged_at, table_of, reads_at}
 use Rattle.history.proofs.Copying.{in_whole_chunk, parted, parted_table, parted_here, parted_else, parted_covers, Parts}
 use Rattle.history.proofs.Ends.{Up, turned, turned_off}
@@ -91,7 +91,7 @@ module _ (p : Plain) (valid : p.void ≡ false) (d : Disks) (st : Up p (serving 
     old_reads on t x is = keeps.reads _ (in_copy_data p.chunk x t (listed_lookup p.size p.chunk (table_of p) stand.listed (chunk_of p t) x is).1) on
 
   new_data : (t : ℕ) → is_data (sectors p.chunk) (in_copy (sectors p.chunk) k t / sectors p.chunk) ≡ true
-  new_data t = in_copy_data p.chunk k t (room_free p.size p.chunk (table_of p) low_cow stand.listed k free).0
+  new_data t = in_copy_data p.chunk k t (room_free p.size p.chunk (table_of p) stand.listed k free).0
 
   shares : (t : ℕ) → t < p.size.origin → diverged_at p t ≡ false → p.view t ≡ p.origin t
   shares t l o = st.covers.shared valid t l o

@@ -1,21 +1,21 @@
 -- The store's steps name sectors of its device.
-use Rattle.std.proofs.Common.{◌≡◌, ℕ, ◌+◌, ◌*◌, ◌/◌, ◌%◌, ◌<◌, ◌≤◌, Bool, true, false, not, ◌&&◌, ltb, List, length, replicate, Some, None, sym, refl, ap, ◌∙◌, ⊎_elim, mul-le-mul_right, mod-lt, mul_assoc, mul_comm, le-div_iff_mul-le, mul-one, mul-add, arith}
+use Rattle.std.proofs.Common.{◌≡◌, ℕ, ◌+◌, ◌*◌, ◌/◌, ◌%◌, ◌<◌, ◌≤◌, Bool, true, false, List, length, replicate, Some, refl, mul-le-mul_right, mod-lt, mul_assoc, mul_comm, le-div_iff_mul-le, mul-one, mul-add, arith}
 use native.Mathlib.Nat.{div-add-mod}
-use Rattle.std.proofs.lemmas.Bool.{cases_Bool, and_parts, not-false, not-true, ltb-true, cond-false}
 use Rattle.device.specs.Disk.{Bytes, writes, flushes}
 use Rattle.device.specs.Plans.{then, Steps, zeroing}
 use Rattle.layout.specs.declared.chunk.ChunkSize.{ChunkSize}
 use Rattle.layout.specs.declared.chunk.ChunkSize.TheVariants.{One, Two, Four, Eight, Sixteen}
 use Rattle.layout.specs.declared.exception.Exception.{Exception}
-use Rattle.layout.specs.Chunks.{sectors, per_area, area_chunk, area_start, area_place}
+use Rattle.layout.specs.Chunks.{sectors, per_area, area_start, area_place}
 use Rattle.layout.specs.Entries.{pic}
 use Rattle.layout.specs.Headers.{header}
-use Rattle.exceptions.specs.Table.{entries_at_most, fills_area, next_place, has_room, room}
+use Rattle.exceptions.specs.Table.{entries_at_most, fills_area, room}
 use Rattle.store.specs.Image.{Sizes}
 use Rattle.store.specs.Steps.{finished, writing, flushing, storing, making, preparing, entering, spoiling}
 use Rattle.recovery.specs.Standing.{Listed}
 use Rattle.recovery.proofs.Finds.{sectors_within}
 use Rattle.recovery.proofs.Learns.{area_sector_on}
+use Rattle.recovery.proofs.Listing.{roomy, next_on}
 use Rattle.recovery.proofs.Places.{placed}
 use Rattle.recovery.proofs.Sheets.{length_pic}
 use Rattle.history.proofs.Fair.{Fair, asks_fair, then_fair, zeroing_fair}
@@ -54,17 +54,6 @@ making_fair n size room =
 pub spoiling_fair : (n : ℕ) (size : ChunkSize) → 0 < n → Fair n (spoiling (sectors size))
 spoiling_fair n size some = writing_fair n 0 (header false (sectors size)) (flushing finished) (header_long false size) some (flushing_fair n finished tt)
 
--- what room for one more exception says: the next area is on the device where it is wanted
-pub room_area : (limit c chunks : ℕ) (es : List Exception) (p : ℕ) → room limit c chunks es ≡ Some p → fills_area c (length es) ≡ true → area_chunk c (length es / per_area c + 1) < chunks
-room_area limit c chunks es p is fills =
-    ⊎_elim
-    (λ has.
-    let rest = (and_parts (ltb (next_place c es) chunks) _ has).1 in
-    let area = (and_parts (not (fills_area c (length es) && not (ltb (area_chunk c (length es / per_area c + 1)) chunks))) _ rest).0 in
-    ltb-true _ _ (not-false _ (sym (ap (λ b. b && not (ltb (area_chunk c (length es / per_area c + 1)) chunks)) fills) ∙ not-true _ area)))
-    (λ none. cc (cond-false (has_room limit c chunks (length es) (next_place c es)) (Some (next_place c es)) None none))
-    (cases_Bool (has_room limit c chunks (length es) (next_place c es)))
-
 -- a chunk that is on a device, sector by sector
 pub chunk_on : (size : ChunkSize) (n k : ℕ) → k < n / sectors size → k * sectors size + sectors size ≤ n
 chunk_on size n k h =
@@ -84,7 +73,7 @@ module _ (z : Sizes) (size : ChunkSize) (es list : List Exception) (p : ℕ) (li
       area_sector_on z size es listed.shape listed.sound (length es / 32 / c) (length es / 32 % c) (omega arith) below
 
   preparing_fair : (b : Bool) → fills_area (sectors size) (length es) ≡ b → Fair z.cow (preparing b (sectors size) (length es / per_area (sectors size) + 1))
-  preparing_fair true fills = zeroing_fair z.cow (sectors size) _ (chunk_on size z.cow _ (room_area entries_at_most (sectors size) _ es p is fills))
+  preparing_fair true fills = zeroing_fair z.cow (sectors size) _ (chunk_on size z.cow _ (next_on (roomy (sectors size) _ es p is) fills))
   preparing_fair false fills = tt
 
   pub entering_fair : Fair z.cow (entering (sectors size) list (length es))

@@ -22,7 +22,6 @@ pub mod Owes
 pub mod Promised
 pub mod Refusing
 pub mod Voids
-pub mod Gathered
 pub mod Copying
 pub mod Entering
 pub mod Refuses

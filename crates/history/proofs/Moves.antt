@@ -7,7 +7,8 @@ use Rattle.device.proofs.Uses.{Went, went_on, left_in, was_refused, went, over a
 use Rattle.recovery.specs.Readings.{image, gathered}
 use Rattle.recovery.specs.Standing.{Within}
 use Rattle.recovery.proofs.Allowed.{Allowed, Writes, run_within, on_good}
-use Rattle.recovery.proofs.Zeros.{put_here, put_elsewhere, written_good}
+use Rattle.recovery.proofs.Gathered.{part}
+use Rattle.recovery.proofs.Zeros.{spread_elsewhere, spread_here, put_here, put_elsewhere}
 use Rattle.store.specs.Steps.{only_call}
 use Rattle.history.proofs.Fair.{Fared, fine, lost, fares, Readable, asks_fair, spreading_fair, gathering_fair}
 use Rattle.history.proofs.Invariant.{Fewer}
@@ -68,10 +69,6 @@ reads_one {d} {e} {t} s here long on r = reads_range 1 s (omega arith) long on (
 
 -- WRITES
 
--- part i of some bytes, one sector long
-abbrev pub part : Bytes → ℕ → Bytes
-part bytes i = take 512 (drop (512 * i) bytes)
-
 -- what n sectors from s on may hold besides what they held
 abbrev pub Gains : Disk → ℕ → ℕ → Bytes → ℕ → Bytes → Type 0
 Gains d s n bytes t b = Has (possibilities (d.cells t)) b ⊎ ((i : ℕ) × (i < n) × (t ≡ s + i) × (b ≡ part bytes i))
@@ -90,25 +87,6 @@ spreading_writes B (suc n) s bytes ok =
     let next : drop (512 * suc i) bytes ≡ drop (512 * i) (drop 512 bytes) = (let z : 512 * suc i ≡ 512 + 512 * i = omega arith in ap (λ k. drop k bytes) z) ∙ sym (drop-drop (512 * i) 512 bytes) in
     subst (λ t. B t (part (drop 512 bytes) i)) at (subst (B (s + suc i)) (ap (take 512) next) (ok (suc i) (omega arith))) in
     (here, on_good B (λ _. spreading (s + 1) n (drop 512 bytes)) (λ _. spreading_writes B n (s + 1) (drop 512 bytes) later))
-
--- a good spreading: its sectors read as the parts, and others as before
-spread_elsewhere : (n s : ℕ) (bytes : Bytes) {d e : Disk} → Runs one (spreading s n bytes) d (good tt) e → (u : ℕ) → ((i : ℕ) → i < n → u ≡ s + i → ⊥) → image e u ≡ image d u
-spread_elsewhere zero s bytes r u out = ap (λ y. image y u) (run_over r).1
-spread_elsewhere (suc n) s bytes {d} r u out =
-    let w = written_good r in
-    spread_elsewhere n (s + 1) (drop 512 bytes) w.1 u (λ i l is. out (suc i) (omega arith) (omega arith)) ∙ put_elsewhere d s (take 512 bytes) w.0 u (λ is. out 0 (omega arith) (omega arith))
-
-spread_here : (n s : ℕ) (bytes : Bytes) {d e : Disk} → Runs one (spreading s n bytes) d (good tt) e → (i : ℕ) → i < n → image e (s + i) ≡ part bytes i
-spread_here zero s bytes r i l = absurd (omega arith)
-spread_here (suc n) s bytes {d} {e} r zero l =
-    let w = written_good r in
-    let at : s + 0 ≡ s = omega arith in
-    ap (image e) at ∙ spread_elsewhere n (s + 1) (drop 512 bytes) w.1 s (λ i l is. omega arith) ∙ put_here d s (take 512 bytes) w.0
-spread_here (suc n) s bytes {d} {e} r (suc i) l =
-    let w = written_good r in
-    let at : s + suc i ≡ (s + 1) + i = omega arith in
-    let back : 512 * i + 512 ≡ 512 * suc i = omega arith in
-    ap (image e) at ∙ spread_here n (s + 1) (drop 512 bytes) w.1 i (omega arith) ∙ ap (take 512) (drop-drop (512 * i) 512 bytes ∙ ap (λ k. drop k bytes) (let z : 512 + 512 * i ≡ 512 * suc i = omega arith in z))
 
 -- n sectors written
 pub writes_range : {d e : Disk} {t : Told Refusal (Unit {0})} (n s : ℕ) (bytes : Bytes) → s + n ≤ d.count → length bytes ≡ 512 * n → Readable d → d.on ≡ true → Runs one (spreading s n bytes) d t e → DidWrite d s n bytes t e

@@ -1,5 +1,5 @@
 -- A chunk without a copy is copied and entered, before a write to it.
-use Rattle.std.proofs.Common.{◌≡◌, ℕ, ◌+◌, ◌*◌, ◌/◌, ◌%◌, ◌^◌, ◌<◌, ◌≤◌, true, false, eqb, ◌⊎◌, List, [], length, Some, sym, ap, ◌∙◌, subst, inl, mod-lt, div-add-mod', arith}
+use Rattle.std.proofs.Common.{◌≡◌, ℕ, ◌+◌, ◌*◌, ◌/◌, ◌%◌, ◌<◌, ◌≤◌, true, false, eqb, List, [], length, Some, sym, ap, ◌∙◌, subst, inl, mod-lt, div-add-mod', arith}
 use Rattle.std.proofs.lemmas.Bool.{and_parts, eqb-true}
 use Rattle.device.specs.Disk.{Bytes, Disk, Told, good, refused}
 use Rattle.device.specs.Plans.{Runs, both, origin, cow, Disks, with_side, then, gathering, spreading}
@@ -9,6 +9,7 @@ use Rattle.exceptions.specs.Table.{entries_at_most, lookup, room}
 use Rattle.store.specs.Steps.{shape_of, enter}
 use Rattle.recovery.specs.Readings.{image, gathered}
 use Rattle.recovery.proofs.Finds.{sectors_within}
+use Rattle.recovery.proofs.Gathered.{part, Long, length_gathered, part_gathered}
 use Rattle.history.specs.Faults.{Fault, Moves, at_side, in_store}
 use Rattle.history.specs.Steps.{sizes, serving, ground, copying}
 use Rattle.history.specs.Machine.{Plain, has_chunk, chunk_of, diverged_at, table_of}
@@ -16,9 +17,7 @@ use Rattle.history.proofs.Copying.{in_whole_chunk, free_covers, free_up, Parts}
 use Rattle.history.proofs.Ends.{Up, turned_off}
 use Rattle.history.proofs.Entering.{entered_both}
 use Rattle.history.proofs.Fairs.{chunk_on}
-use Rattle.history.proofs.Gathered.{Long, length_gathered, part_gathered}
-use Rattle.history.proofs.Invariant.{Covers, Wholes, CutBoth, covers_fewer, cut_fewer}
-use Rattle.history.proofs.Moves.{part}
+use Rattle.history.proofs.Invariant.{Covers, Wholes, covers_fewer, cut_fewer}
 use Rattle.history.proofs.Reading.{alive}
 use Rattle.history.proofs.Sides.{WentOff, ReadBoth, reads_good, reads_off, reads_chunk, SpreadBoth, spreads_good, spreads_off, spreads_side, off_as}
 use Rattle.history.proofs.Splits.{Then, then_parts}
@@ -32,7 +31,7 @@ module _ (p : Plain) (valid : p.void ≡ false) (d : Disks) (up : Up p (serving 
   still w cover = turned_off w (λ x cut. inl (covers_fewer cover (cut_fewer cut.origin) (cut_fewer cut.cow)))
 
   place : (is_data (sectors p.chunk) k ≡ true) × (k < p.size.cow / sectors p.chunk) × ((j : ℕ) → lookup (table_of p) j ≡ Some k → ⊥)
-  place = room_free p.size p.chunk (table_of p) (subst (λ z. z.cow < 2 ^ 32) up.agrees.sectors up.whole.cow.few) (up.stands valid).listed k free
+  place = room_free p.size p.chunk (table_of p) (up.stands valid).listed k free
 
   chunk_here : chunk_of p s * sectors p.chunk + sectors p.chunk ≤ d.origin.count
   chunk_here =

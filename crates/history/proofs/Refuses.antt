@@ -1,5 +1,5 @@
 -- The tests of a call: what a refusal is, and what is known once all have passed.
-use Rattle.std.proofs.Common.{◌≡◌, Bool, true, false, eqb, List, ◌∷◌, Some, None, Option, refl, subst}
+use Rattle.std.proofs.Common.{◌≡◌, Bool, true, false, List, ◌∷◌, Some, None, Option, refl}
 use Rattle.device.specs.Disk.{refused}
 use Rattle.device.specs.Plans.{Plan, Runs, both, Side, Disks}
 use Rattle.device.proofs.Uses.{over as run_over}

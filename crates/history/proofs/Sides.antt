@@ -6,12 +6,13 @@ use Rattle.device.specs.Plans.{Runs, both, Side, origin, cow, Disks, side, with_
 use Rattle.device.proofs.Possible.{last_has}
 use Rattle.recovery.specs.Readings.{image, gathered}
 use Rattle.recovery.specs.Standing.{Within}
+use Rattle.recovery.proofs.Gathered.{part}
 use Rattle.history.specs.Faults.{Fault, passed_up, at_side, read, write, flush}
 use Rattle.store.specs.Steps.{only_call}
 use Rattle.history.specs.Steps.{both_on}
 use Rattle.history.proofs.Invariant.{Wholes, Fewer, fewer_refl}
 use Rattle.history.proofs.Fair.{Readable}
-use Rattle.history.proofs.Moves.{part, Gains, GainsOne, DidRead, read_good, read_off, reads_one, reads_range, DidWrite, write_good, write_off, writes_range, DidPut, put_good, put_off, writes_one, DidFlush, flush_good, flush_off, flushes_one}
+use Rattle.history.proofs.Moves.{Gains, GainsOne, DidRead, read_good, read_off, reads_one, reads_range, DidWrite, write_good, write_off, writes_range, DidPut, put_good, put_off, writes_one, DidFlush, flush_good, flush_off, flushes_one}
 use Rattle.history.proofs.Splits.{At, at_one}
 
 -- both devices are on, and whole

@@ -1,15 +1,14 @@
 -- Snapshot writes of an open pair, and writes of a merging snapshot.
-use Rattle.std.proofs.Common.{◌≡◌, ℕ, ◌/◌, ◌<◌, true, false, cond, ◌||◌, List, [], ◌∷◌, length, Some, None, Option, sym, refl, ap, ◌∙◌, subst, inl, inr, ⊎_elim}
+use Rattle.std.proofs.Common.{◌≡◌, ℕ, ◌/◌, ◌<◌, true, false, cond, ◌||◌, [], ◌∷◌, length, Some, None, Option, sym, refl, ap, ◌∙◌, subst}
 use Rattle.std.specs.List.{ContainsAt as Has}
 use Rattle.std.proofs.ByRecursion.{has_push}
 use Rattle.std.proofs.lemmas.Bool.{or_from, or_left, or_right, cond-true, cond-false}
 use Rattle.device.specs.Disk.{Bytes, writes, good, refused}
 use Rattle.device.specs.Plans.{Runs, both, Disks}
 use Rattle.device.proofs.Uses.{over as run_over}
-use Rattle.layout.specs.declared.exception.Exception.{Exception}
 use Rattle.layout.specs.Chunks.{sectors, in_copy}
 use Rattle.exceptions.specs.Table.{entries_at_most, lookup, room}
-use Rattle.history.specs.Faults.{Fault, store_fault}
+use Rattle.history.specs.Faults.{store_fault}
 use Rattle.history.specs.Steps.{Memory, serving, ground, Outcome, giving, after, copying, copy_put, snapshot_diverging, snapshot_served, snapshot_writing, merging_put, merging_writing}
 use Rattle.history.specs.History.{write_snapshot, write_merging, nothing, replied}
 use Rattle.history.specs.Machine.{Plain, added, perhaps, chunk_of, diverged_at, table_of, can_diverge, diverge, on_origin, on_view, broken_off}
@@ -18,7 +17,6 @@ use Rattle.history.proofs.Ends.{Up, Ends, kept_end}
 use Rattle.history.proofs.OriginWrites.{place_can, no_place_cannot, first_of, second_of, wider_view, ends_by, turn_ends, free_by}
 use Rattle.history.proofs.Parting.{parts}
 use Rattle.history.proofs.Putting.{shared_puts, copy_puts}
-use Rattle.history.proofs.Splits.{After, after_parts}
 use Rattle.history.proofs.Spots.{uncopied, copy_diverged}
 use Rattle.history.proofs.Through.{at_copy}
 use Rattle.store.specs.Steps.{only_call}

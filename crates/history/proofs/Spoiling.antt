@@ -25,7 +25,7 @@ use Rattle.history.proofs.Fair.{Fared, fine, lost, fares}
 use Rattle.history.proofs.Fairs.{spoiling_fair}
 use Rattle.history.proofs.Invariant.{Covers, Spoiled, Wholes, CutBoth, cut_fewer, image_chosen}
 use Rattle.history.proofs.Reading.{alive}
-use Rattle.history.proofs.Sides.{WentOff, went_off}
+use Rattle.history.proofs.Sides.{went_off}
 use Rattle.history.proofs.Splits.{At, at_one}
 use Rattle.history.proofs.Standings.{single_choice, in_copy_data}
 use Rattle.history.proofs.Tables.{listed_lookup}

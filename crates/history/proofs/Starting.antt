@@ -1,5 +1,5 @@
 -- A snapshot just made.
-use Rattle.std.proofs.Common.{◌≡◌, ℕ, ◌/◌, ◌≤◌, Bool, true, false, List, [], ◌∷◌, Some, None, Option, sym, refl, ap, ◌∙◌, subst, inl}
+use Rattle.std.proofs.Common.{◌≡◌, ℕ, ◌/◌, ◌≤◌, true, [], ◌∷◌, Some, None, Option, sym, refl, ap, ◌∙◌, subst, inl}
 use Rattle.std.specs.List.{ContainsAt as Has}
 use Rattle.std.proofs.ByRecursion.{has_push}
 use Rattle.std.proofs.lemmas.Bool.{and_from, and_parts, true≢false, leb-true, not-false}
@@ -15,7 +15,7 @@ use Rattle.recovery.specs.Readings.{image}
 use Rattle.recovery.specs.Standing.{Stands}
 use Rattle.recovery.proofs.Makes.{making_stands}
 use Rattle.history.specs.Faults.{Fault, passed_up, flush, Moves, at_side}
-use Rattle.history.specs.Steps.{Memory, plain, closed, serving, ground, sizes, both_on, Outcome, first, test, still_closed, guarded, shape, after, giving, make_sized, make_tests}
+use Rattle.history.specs.Steps.{Memory, plain, closed, serving, ground, sizes, both_on, Outcome, still_closed, guarded, shape, after, giving, make_sized, make_tests}
 use Rattle.history.specs.History.{Situation, Made}
 use Rattle.history.specs.Machine.{initial, made, Agrees}
 use Rattle.history.proofs.Fair.{Fared, fine, lost, fares}

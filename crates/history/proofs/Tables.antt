@@ -1,21 +1,21 @@
 -- Lists of exceptions: what a lookup finds, after one more and in a part, and what an opening's tests say of each exception.
-use Rattle.std.proofs.Common.{◌≡◌, ℕ, zero, suc, ◌+◌, ◌*◌, ◌/◌, ◌%◌, ◌^◌, ◌<◌, ◌≤◌, Bool, true, false, cond, not, ◌||◌, eqb, ltb, leb, List, [], ◌∷◌, ◌++◌, length, get_or, take, drop, is_some, Some, None, Option, sym, refl, ap, ◌∙◌, subst, ⊎_elim, mod-lt, arith, length-drop}
+use Rattle.std.proofs.Common.{◌≡◌, ℕ, zero, suc, ◌+◌, ◌*◌, ◌/◌, ◌%◌, ◌<◌, ◌≤◌, Bool, true, false, cond, not, ◌||◌, eqb, leb, List, [], ◌∷◌, ◌++◌, length, get_or, take, drop, is_some, Some, None, Option, sym, refl, ap, ◌∙◌, subst, ⊎_elim, mod-lt, arith, length-drop}
 use native.Mathlib.Nat.{div-add-mod}
 use Rattle.std.proofs.lemmas.List.{take-append-drop, take-take, drop_more, get_or-drop, get_or-take, length-take-le}
-use Rattle.std.proofs.lemmas.Bool.{both_ways, not-false, not_from_false, and_parts, and_from, or_parts, eqb-true, eq-eqb, ne_eqb, leb-true, leb-false, le-leb, ltb-true, cond-true, cond-false, cases_eq, cases_order}
+use Rattle.std.proofs.lemmas.Bool.{both_ways, not-false, and_parts, or_parts, eq-eqb, ne_eqb, leb-false, ltb-true, cond-true, cond-false, cases_eq, cases_order}
 use Rattle.layout.specs.declared.chunk.ChunkSize.{ChunkSize}
-use Rattle.layout.specs.declared.chunk.ChunkSize.TheVariants.{One, Two, Four, Eight, Sixteen}
 use Rattle.layout.specs.declared.exception.Exception.{Exception}
-use Rattle.layout.specs.Chunks.{sectors, per_area, is_area, is_data}
+use Rattle.layout.specs.Chunks.{sectors, per_area, is_data}
 use Rattle.layout.specs.Entries.{nothing}
 use Rattle.exceptions.specs.Search.{first_from, first}
-use Rattle.exceptions.specs.Table.{entries_at_most, olds, news, new_at, lookup, has_old, has_new, largest, past_area, next_place, has_room, room}
+use Rattle.exceptions.specs.Table.{entries_at_most, olds, news, new_at, lookup, has_old, has_new, largest, room}
 use Rattle.store.specs.Image.{Sizes}
 use Rattle.store.specs.Judge.{on_data, damaged}
 use Rattle.store.specs.Steps.{shape_of}
 use Rattle.recovery.specs.Standing.{Listed}
 use Rattle.recovery.specs.Breaks.{more}
 use Rattle.recovery.proofs.Finds.{sectors_within}
+use Rattle.recovery.proofs.Listing.{roomy, place_free}
 
 -- FIRST MATCHES
 
@@ -239,46 +239,9 @@ below_largest (x ∷ xs) k p is =
     (λ ne. omega (arith, below_largest xs k p (sym (lookup_later x xs k ne) ∙ is)))
     (cases_eq x.old k)
 
--- after an area there is none
-after_area : (size : ChunkSize) (k : ℕ) → is_area (sectors size) k ≡ true → is_area (sectors size) (k + 1) ≡ false
-after_area One k h = ne_eqb _ _ (λ e. omega (arith, eqb-true _ _ h))
-after_area Two k h = ne_eqb _ _ (λ e. omega (arith, eqb-true _ _ h))
-after_area Four k h = ne_eqb _ _ (λ e. omega (arith, eqb-true _ _ h))
-after_area Eight k h = ne_eqb _ _ (λ e. omega (arith, eqb-true _ _ h))
-after_area Sixteen k h = ne_eqb _ _ (λ e. omega (arith, eqb-true _ _ h))
-
--- chunk 2 is for data
-two_data : (size : ChunkSize) → is_data (sectors size) 2 ≡ true
-two_data One = refl
-two_data Two = refl
-two_data Four = refl
-two_data Eight = refl
-two_data Sixteen = refl
-
--- the chunk past an area or none is for data, and no lower
-past_data : (size : ChunkSize) (k : ℕ) → 2 ≤ k → (is_data (sectors size) (past_area (sectors size) k) ≡ true) × (k ≤ past_area (sectors size) k)
-past_data size k low = go (is_area (sectors size) k) refl
-  where
-    go : (b : Bool) → is_area (sectors size) k ≡ b → (is_data (sectors size) (cond b (k + 1) k) ≡ true) × (k ≤ cond b (k + 1) k)
-    go true is = (and_from _ _ (le-leb 2 (k + 1) (omega arith)) (not_from_false _ (after_area size k is)), omega arith)
-    go false is = (and_from _ _ (le-leb 2 k low) (not_from_false _ is), omega arith)
-
--- the next place is for data, past all new chunks
-next_free : (z : Sizes) (size : ChunkSize) (es : List Exception) → Listed z size es → (is_data (sectors size) (next_place (sectors size) es) ≡ true) × (largest es < next_place (sectors size) es)
-next_free z size [] l = (two_data size, omega arith)
-next_free z size (x ∷ xs) l =
-    let low = leb-true 2 x.new (and_parts (leb 2 x.new) _ (tested z size (x ∷ xs) l 0 (omega arith)).for_data).0 in
-    let r = past_data size (largest (x ∷ xs) + 1) (omega arith) in
-    (r.0, omega (arith, r.1))
-
 -- where there is room, the place is for data, on the device, and free
-pub room_free : (z : Sizes) (size : ChunkSize) (es : List Exception) → z.cow < 2 ^ 32 → Listed z size es → (p : ℕ) → room entries_at_most (sectors size) (z.cow / sectors size) es ≡ Some p → (is_data (sectors size) p ≡ true) × (p < z.cow / sectors size) × ((k : ℕ) → lookup es k ≡ Some p → ⊥)
-room_free z size es low l p = go (has_room entries_at_most (sectors size) (z.cow / sectors size) (length es) (next_place (sectors size) es)) refl
-  where
-    go : (b : Bool) → has_room entries_at_most (sectors size) (z.cow / sectors size) (length es) (next_place (sectors size) es) ≡ b → cond b (Some (next_place (sectors size) es)) None ≡ Some p → (is_data (sectors size) p ≡ true) × (p < z.cow / sectors size) × ((k : ℕ) → lookup es k ≡ Some p → ⊥)
-    go true h is =
-        let same : next_place (sectors size) es ≡ p = cc in
-        let r = next_free z size es l in
-        let on = ltb-true _ _ (and_parts (ltb (next_place (sectors size) es) (z.cow / sectors size)) _ h).0 in
-        (subst (λ q. is_data (sectors size) q ≡ true) same r.0, subst (λ q. q < z.cow / sectors size) same on, λ k found. omega (arith, below_largest es k p found, r.1, same))
-    go false h is = cc
+pub room_free : (z : Sizes) (size : ChunkSize) (es : List Exception) → Listed z size es → (p : ℕ) → room entries_at_most (sectors size) (z.cow / sectors size) es ≡ Some p → (is_data (sectors size) p ≡ true) × (p < z.cow / sectors size) × ((k : ℕ) → lookup es k ≡ Some p → ⊥)
+room_free z size es l p is =
+    let r = roomy (sectors size) (z.cow / sectors size) es p is in
+    let free = place_free (shape_of z size) es l.sound in
+    (subst (λ q. is_data (sectors size) q ≡ true) r.same free.0, r.place, λ k found. omega (arith, below_largest es k p found, free.1, r.same))

@@ -1,6 +1,7 @@
 pub mod Gone
 pub mod Opens
 pub mod Finds
+pub mod Gathered
 pub mod Sheets
 pub mod Sectors
 pub mod Legible

@@ -62,14 +62,18 @@ from_two : (s : Shape) (es : List Exception) → Sound s es → 2 ≤ next_place
 from_two s [] ok = omega arith
 from_two s (x ∷ xs) ok = let low = first_data s x xs ok in let past = past_largest (width s) (x ∷ xs) in omega arith
 
--- what room says
-record Roomy (c chunks : ℕ) (es : List Exception) (p : ℕ) : Type 0 where
-  same : next_place c es ≡ p
-  place : p < chunks
-  next_area : (fills_area c (length es) && not (ltb (area_chunk c (length es / per_area c + 1)) chunks)) ≡ false
-  few : length es ≡ entries_at_most → ⊥
+-- the next place is for data, past every copy
+pub place_free : (s : Shape) (es : List Exception) → Sound s es → (is_data (width s) (next_place (width s) es) ≡ true) × (largest es < next_place (width s) es)
+place_free s es ok = (and_from (leb 2 (next_place (width s) es)) _ (le-leb 2 _ (from_two s es ok)) (not_from_false _ (no_area (width s) es (sectors_within s.size).0)), past_largest (width s) es)
 
-roomy : (c chunks : ℕ) (es : List Exception) (p : ℕ) → room entries_at_most c chunks es ≡ Some p → Roomy c chunks es p
+-- what room says
+pub record Roomy (c chunks : ℕ) (es : List Exception) (p : ℕ) : Type 0 where
+  pub same : next_place c es ≡ p
+  pub place : p < chunks
+  pub next_area : (fills_area c (length es) && not (ltb (area_chunk c (length es / per_area c + 1)) chunks)) ≡ false
+  pub few : length es ≡ entries_at_most → ⊥
+
+pub roomy : (c chunks : ℕ) (es : List Exception) (p : ℕ) → room entries_at_most c chunks es ≡ Some p → Roomy c chunks es p
 roomy c chunks es p is = go (has_room entries_at_most c chunks (length es) (next_place c es)) refl is
   where
     go : (b : Bool) → has_room entries_at_most c chunks (length es) (next_place c es) ≡ b → cond b (Some (next_place c es)) None ≡ Some p → Roomy c chunks es p
@@ -79,6 +83,10 @@ roomy c chunks es p is = go (has_room entries_at_most c chunks (length es) (next
         let rest = and_parts (not (fills_area c (length es) && not (ltb (area_chunk c (length es / per_area c + 1)) chunks))) (not (eqb (length es) entries_at_most)) parts.1 in
         record { same = same; place = subst (λ q. q < chunks) same (ltb-true _ _ parts.0); next_area = not-true _ rest.0; few = eqb-false _ _ (not-true _ rest.1) }
     go false h e = cc
+
+-- an entry that fills its area has the next area on the device
+pub next_on : {c chunks : ℕ} {es : List Exception} {p : ℕ} → Roomy c chunks es p → fills_area c (length es) ≡ true → area_chunk c (length es / per_area c + 1) < chunks
+next_on {c} {chunks} {es} r fills = ltb-true _ _ (not-false _ (sym (ap (λ b. b && not (ltb (area_chunk c (length es / per_area c + 1)) chunks)) fills) ∙ r.next_area))
 
 module _ (s : Shape) (es : List Exception) (old p : ℕ) (ok : Sound s es) (absent : has_old es old ≡ false) (here : old < s.olds) (r : Roomy (width s) s.chunks es p) where
   -- an entry that fills its area has a next one
@@ -91,17 +99,15 @@ module _ (s : Shape) (es : List Exception) (old p : ℕ) (ok : Sound s es) (abse
       let area : length es / e ≡ a = ap (λ n. n / e) (sym flat) ∙ digits_div a inside in
       let rest : length es % e ≡ k = ap (λ n. n % e) (sym flat) ∙ digits_mod a inside in
       let fills : fills_area (width s) (length es) ≡ true = eq-eqb _ _ (omega arith) in
-      let there : ltb (area_chunk (width s) (length es / e + 1)) s.chunks ≡ true = not-false _ (sym (ap (λ b. b && not (ltb (area_chunk (width s) (length es / e + 1)) s.chunks)) fills) ∙ r.next_area) in
-      and_right _ _ (lt-leb _ _ (subst (λ n. area_chunk (width s) (n + 1) < s.chunks) area (ltb-true _ _ there))))
+      and_right _ _ (lt-leb _ _ (subst (λ n. area_chunk (width s) (n + 1) < s.chunks) area (next_on r fills))))
       (λ ne. and_left _ _ (ne_eqb _ _ ne))
       (cases_eq (k + 1) (per_area (width s)))
 
   new_sound : (a k : ℕ) → k < per_area (width s) → per_area (width s) * a + k ≡ length es → damaged s a k es (record { old = old; new = p }) ≡ false
   new_sound a k inside is =
-      let some = (sectors_within s.size).0 in
-      let low = from_two s es ok in
-      let holds_data = and_from (leb 2 p) _ (le-leb 2 p (omega (arith, r.same))) (not_from_false _ (subst (λ q. is_area (width s) q ≡ false) r.same (no_area (width s) es some))) in
-      let above : largest es < p = subst (λ q. largest es < q) r.same (past_largest (width s) es) in
+      let free = place_free s es ok in
+      let holds_data : is_data (width s) p ≡ true = subst (λ q. is_data (width s) q ≡ true) r.same free.0 in
+      let above : largest es < p = subst (λ q. largest es < q) r.same free.1 in
       or_from (leb s.olds old) _ (lt-leb _ _ here)
       (or_from (not (on_data s p)) _ (not_from_true _ (and_from _ _ holds_data (lt-ltb _ _ r.place)))
       (or_from (has_old es old) _ absent (or_from (has_new es p) _ (ap is_some (none_above es p 0 above)) (not_stranded a k inside is))))

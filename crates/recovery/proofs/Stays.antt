@@ -4,10 +4,10 @@ use native.Mathlib.Nat.{div-add-mod}
 use Rattle.std.specs.List.{ContainsAt as Has, AllByRecursion}
 use Rattle.std.proofs.ByRecursion.{All-more}
 use Rattle.std.proofs.lemmas.Bool.{cases_Bool, cases_lt, or_parts, and_parts, not-false, leb-false, ltb-true, cond-true, cond-false}
-use Rattle.device.specs.Disk.{Bytes, Disk, possibilities, writes, settled, good}
+use Rattle.device.specs.Disk.{Bytes, Disk, possibilities, settled, good}
 use Rattle.device.specs.Plans.{Runs, one, spreading}
 use Rattle.device.specs.Sectors.{only}
-use Rattle.device.proofs.Uses.{Went, went_on, left_in, was_refused, went as went_one, over as run_over, not_good}
+use Rattle.device.proofs.Uses.{over as run_over}
 use Rattle.layout.specs.declared.chunk.ChunkSize.{ChunkSize}
 use Rattle.layout.specs.declared.exception.Exception.{Exception}
 use Rattle.layout.specs.Chunks.{sectors, per_area, area_chunk, area_start, is_data}
@@ -31,32 +31,7 @@ use Rattle.recovery.proofs.Places.{not_header}
 use Rattle.recovery.proofs.Sectors.{Small, zeros_are}
 use Rattle.recovery.proofs.Settles.{before_end, from_end}
 use Rattle.recovery.proofs.Sheets.{sector_of_area}
-use Rattle.recovery.proofs.Zeros.{put_here, put_elsewhere, settled_single, flushed_good, then_good}
-
--- bytes over a range: below it nothing changes, and in it they are read
-spread_below : (n s : ℕ) (b : Bytes) {d e : Disk} → Runs one (spreading s n b) d (good tt) e → (t : ℕ) → t < s → image e t ≡ image d t
-spread_below zero s b r t h = ap (λ y. image y t) (run_over r).1
-spread_below (suc n) s b {d} {e} r t h = by (λ m q. spread_below n (s + 1) (drop 512 b) {d = m} q t (omega arith)) (went_one r)
-  where
-    by : ((m : Disk) → Runs one (spreading (s + 1) n (drop 512 b)) m (good tt) e → image e t ≡ image m t) → Went {B = Unit {0}} one tt (writes s (take 512 b)) (λ _. spreading (s + 1) n (drop 512 b)) d (good tt) e → image e t ≡ image d t
-    by on (went_on f is q) = on _ q ∙ put_elsewhere d s (take 512 b) f t (omega arith)
-    by on (left_in f is a y) = not_good a
-    by on (was_refused f m p is a y) = not_good a
-
-spread_read : (n s : ℕ) (b : Bytes) {d e : Disk} → Runs one (spreading s n b) d (good tt) e → (i : ℕ) → i < n → image e (s + i) ≡ take 512 (drop (512 * i) b)
-spread_read zero s b r i h = absurd (omega arith)
-spread_read (suc n) s b {d} {e} r i h = by (λ m q k l. spread_read n (s + 1) (drop 512 b) {d = m} q k l) i h (went_one r)
-  where
-    by : ((m : Disk) → Runs one (spreading (s + 1) n (drop 512 b)) m (good tt) e → (k : ℕ) → k < n → image e ((s + 1) + k) ≡ take 512 (drop (512 * k) (drop 512 b))) → (i : ℕ) → i < suc n → Went {B = Unit {0}} one tt (writes s (take 512 b)) (λ _. spreading (s + 1) n (drop 512 b)) d (good tt) e → image e (s + i) ≡ take 512 (drop (512 * i) b)
-    by on zero l (went_on f is q) =
-        let at : s + 0 ≡ s = omega arith in
-        ap (image e) at ∙ spread_below n (s + 1) (drop 512 b) q s (omega arith) ∙ put_here d s (take 512 b) f
-    by on (suc i) l (went_on f is q) =
-        let at : s + suc i ≡ (s + 1) + i = omega arith in
-        let from : 512 + 512 * i ≡ 512 * suc i = omega arith in
-        ap (image e) at ∙ on _ q i (omega arith) ∙ ap (take 512) (drop-drop (512 * i) 512 b ∙ ap (λ k. drop k b) from)
-    by on i l (left_in f is a y) = not_good a
-    by on i l (was_refused f m p is a y) = not_good a
+use Rattle.recovery.proofs.Zeros.{spread_elsewhere, spread_here, settled_single, flushed_good, then_good}
 
 -- WHAT A GOOD CLEANING LEAVES
 
@@ -93,11 +68,11 @@ module _ (s : Shape) (x : Ending) (d e : Disk) where
       let mid = g.1 in
       let o : e ≡ settled mid = (run_over (flushed_good g.3)).1 in
       record {
-        below = λ t l. ap (λ y. image y t) o ∙ spread_below _ _ _ g.2 t l;
+        below = λ t l. ap (λ y. image y t) o ∙ spread_elsewhere _ _ _ g.2 t (λ i h is. omega arith);
         above = λ q l h.
             let at : first + q ≡ first + q₀ + (q - q₀) = omega arith in
             let from : 512 * q₀ + 512 * (q - q₀) ≡ 512 * q = omega arith in
-            ap (λ y. image y (first + q)) o ∙ ap (image mid) at ∙ spread_read _ _ _ g.2 (q - q₀) (omega arith) ∙ ap (take 512) (drop-drop (512 * (q - q₀)) (512 * q₀) whole ∙ ap (λ k. drop k whole) from);
+            ap (λ y. image y (first + q)) o ∙ ap (image mid) at ∙ spread_here _ _ _ g.2 (q - q₀) (omega arith) ∙ ap (take 512) (drop-drop (512 * (q - q₀)) (512 * q₀) whole ∙ ap (λ k. drop k whole) from);
         single = λ t b has. settled_single mid t b o has;
       })
       (cases_Bool (all_zero (drop (16 * x.place) x.bytes)))

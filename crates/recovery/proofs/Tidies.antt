@@ -1,5 +1,5 @@
 -- What cleaning writes keeps the entries up to the end entry.
-use Rattle.std.proofs.Common.{◌≡◌, ℕ, zero, suc, ◌+◌, ◌-◌, ◌*◌, ◌/◌, ◌%◌, ◌<◌, ◌≤◌, ◌++◌, length, take, drop, replicate, sym, refl, ap, ◌∙◌, subst, ap₂, ⊎_elim, arith, length-append, length-drop, take-take, drop-drop}
+use Rattle.std.proofs.Common.{◌≡◌, ℕ, zero, suc, ◌+◌, ◌-◌, ◌*◌, ◌/◌, ◌%◌, ◌<◌, ◌≤◌, ◌++◌, length, take, drop, replicate, sym, refl, ap, ◌∙◌, subst, ⊎_elim, arith, length-append, length-drop, take-take, drop-drop}
 use lib.ListN.{length-replicate}
 use lib.Seq.{take-append-le}
 use Rattle.std.specs.List.{between}
@@ -10,7 +10,6 @@ use Rattle.device.specs.Disk.{Bytes, Told, good, refused, Refusal}
 use Rattle.device.specs.Plans.{onward, spreading}
 use Rattle.layout.specs.Chunks.{area_start}
 use Rattle.layout.specs.Entries.{entry_from}
-use Rattle.layout.specs.Numbers.{value}
 use Rattle.layout.proofs.Back.{entry_past}
 use Rattle.store.specs.declared.shape.Shape.{Shape}
 use Rattle.store.specs.Image.{all_zero, cleaned}
@@ -20,23 +19,9 @@ use Rattle.store.specs.Steps.{finished, flushing, cleaning}
 use Rattle.recovery.specs.Readings.{Image}
 use Rattle.recovery.proofs.Allowed.{Writes, on_good, then_writes}
 use Rattle.recovery.proofs.Again.{Keeps, End}
+use Rattle.recovery.proofs.Gathered.{entry_by, part_entry}
 use Rattle.recovery.proofs.Places.{same_sector, same_area, not_header}
 use Rattle.recovery.proofs.Sheets.{length_area, entry_of_area, entry_in_area}
-
--- an entry inside a part of some bytes
-part_between : (l : Bytes) (k i j : ℕ) → i ≤ j → j ≤ 512 → between i j (take 512 (drop k l)) ≡ between (k + i) (k + j) l
-part_between l k i j le few =
-    let span : j - i ≡ k + j - (k + i) = omega arith in
-    between_is (take 512 (drop k l)) i j ∙ ap (drop i) (take-take j 512 (drop k l) few) ∙ sym (between_is (drop k l) i j) ∙ ap₂ (λ n r. take n r) span (drop-drop i k l)
-
-entry_by : (b b' : Bytes) (i i' : ℕ) → between i (i + 8) b ≡ between i' (i' + 8) b' → between (i + 8) (i + 8 + 8) b ≡ between (i' + 8) (i' + 8 + 8) b' → entry_from b i ≡ entry_from b' i'
-entry_by b b' i i' old new = λ j. record { old = value (old j); new = value (new j) }
-
-part_entry : (l : Bytes) (k i : ℕ) → i + 16 ≤ 512 → entry_from (take 512 (drop k l)) i ≡ entry_from l (k + i)
-part_entry l k i few =
-    let a : k + (i + 8) ≡ k + i + 8 = omega arith in
-    let b : k + (i + 8 + 8) ≡ k + i + 8 + 8 = omega arith in
-    entry_by (take 512 (drop k l)) l i (k + i) (part_between l k i (i + 8) (omega arith) (omega arith) ∙ ap (λ n. between (k + i) n l) a) (part_between l k (i + 8) (i + 8 + 8) (omega arith) (omega arith) ∙ ap₂ (λ n m. between n m l) a b)
 
 -- the bytes before a place, with others after them
 front_between : (l zs : Bytes) (n i j : ℕ) → j ≤ n → n ≤ length l → between i j (take n l ++ zs) ≡ between i j l

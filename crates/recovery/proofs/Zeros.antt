@@ -1,13 +1,14 @@
 -- What good writes and flushes leave as the readings.
-use Rattle.std.proofs.Common.{◌≡◌, ℕ, zero, suc, ◌+◌, ◌<◌, eqb, replicate, refl, ap, ◌∙◌, subst, arith}
+use Rattle.std.proofs.Common.{◌≡◌, ℕ, zero, suc, ◌+◌, ◌*◌, ◌<◌, eqb, take, drop, replicate, refl, ap, ◌∙◌, subst, arith, drop-drop}
 use Rattle.std.specs.List.{ContainsAt as Has}
 use Rattle.std.proofs.lemmas.Bool.{eq-eqb, ne_eqb, cond-true, cond-false}
 use Rattle.device.specs.Disk.{Bytes, Disk, Fate, writes, flushes, settled, possibilities, Told, good, refused, Refusal, put}
-use Rattle.device.specs.Plans.{Plan, call, Runs, one, onward, then, zeroing}
+use Rattle.device.specs.Plans.{Plan, call, Runs, one, onward, then, zeroing, spreading}
 use Rattle.store.specs.Steps.{storing}
 use Rattle.device.specs.Sectors.{only}
 use Rattle.device.proofs.Uses.{Went, went_on, left_in, was_refused, went, over as run_over, not_good, halves}
 use Rattle.recovery.specs.Readings.{image}
+use Rattle.recovery.proofs.Gathered.{part}
 
 -- a good write at s reads back, and other sectors read as before
 module _ (d : Disk) (s : ℕ) (bytes : Bytes) (f : Fate) where
@@ -60,6 +61,25 @@ written_good {X} {s} {bytes} {p} {d} {e} {x} r = by (went r)
     by (went_on f is q) = (f, q)
     by (left_in f is a y) = not_good a
     by (was_refused f m n is a y) = not_good a
+
+-- a good spreading: its sectors read as the parts, and others as before
+pub spread_elsewhere : (n s : ℕ) (bytes : Bytes) {d e : Disk} → Runs one (spreading s n bytes) d (good tt) e → (u : ℕ) → ((i : ℕ) → i < n → u ≡ s + i → ⊥) → image e u ≡ image d u
+spread_elsewhere zero s bytes r u out = ap (λ y. image y u) (run_over r).1
+spread_elsewhere (suc n) s bytes {d} r u out =
+    let w = written_good r in
+    spread_elsewhere n (s + 1) (drop 512 bytes) w.1 u (λ i l is. out (suc i) (omega arith) (omega arith)) ∙ put_elsewhere d s (take 512 bytes) w.0 u (λ is. out 0 (omega arith) (omega arith))
+
+pub spread_here : (n s : ℕ) (bytes : Bytes) {d e : Disk} → Runs one (spreading s n bytes) d (good tt) e → (i : ℕ) → i < n → image e (s + i) ≡ part bytes i
+spread_here zero s bytes r i l = absurd (omega arith)
+spread_here (suc n) s bytes {d} {e} r zero l =
+    let w = written_good r in
+    let at : s + 0 ≡ s = omega arith in
+    ap (image e) at ∙ spread_elsewhere n (s + 1) (drop 512 bytes) w.1 s (λ i l is. omega arith) ∙ put_here d s (take 512 bytes) w.0
+spread_here (suc n) s bytes {d} {e} r (suc i) l =
+    let w = written_good r in
+    let at : s + suc i ≡ (s + 1) + i = omega arith in
+    let back : 512 * i + 512 ≡ 512 * suc i = omega arith in
+    ap (image e) at ∙ spread_here n (s + 1) (drop 512 bytes) w.1 i (omega arith) ∙ ap (take 512) (drop-drop (512 * i) 512 bytes ∙ ap (λ k. drop k bytes) (let z : 512 + 512 * i ≡ 512 * suc i = omega arith in z))
 
 -- a sector that was stored is read back, alone
 pub stored_good : {s : ℕ} {bytes : Bytes} {d e : Disk} → Runs one (storing s bytes) d (good tt) e → (f : Fate) × (e ≡ settled (put d s bytes f))
