@@ -6,6 +6,8 @@ use Rattle.device.specs.Disk.{Bytes, Disk, Fate, Op, reads, writes, flushes, pla
 use Rattle.device.specs.Plans.{Plan, done, call, ended, run, Runs, bind, onward, then, one, zeroing, spreading, gathering}
 use Rattle.device.proofs.Steps.{never}
 use Rattle.device.specs.Ways.{way_here}
+use Rattle.recovery.proofs.Gone.{leaves_off}
+use Rattle.history.proofs.Wholes.{same_count}
 
 -- a call with one sector of bytes, at a sector of a device of n
 abbrev pub Sits : ℕ → Op → Type 0
@@ -39,16 +41,6 @@ carried_on (reads len s) d f = refl
 carried_on (writes s b) d f = refl
 carried_on flushes d f = refl
 
-carried_count : (o : Op) (d : Disk) (f : Fate) → (carried o d f).count ≡ d.count
-carried_count (reads len s) d f = refl
-carried_count (writes s b) d f = refl
-carried_count flushes d f = refl
-
-broken_off : (o : Op) (d : Disk) (f : Fate) → (broken o d f).on ≡ false
-broken_off (reads len s) d f = refl
-broken_off (writes s b) d f = refl
-broken_off flushes d f = refl
-
 gives : (o : Op) (d : Disk) → Sits d.count o → Readable d → Gives o (answered o d)
 gives (reads len s) d h long = long s h.1
 gives (writes s b) d h long = tt
@@ -79,7 +71,7 @@ fares {A} {p} {d} {e} {t} fair long on r = go p r.fates d fair long on r.comes
     at_way o k fs d f stop more false h = more h
     at_way o k fs d f stop more true h =
         let x = ended_at fs (sym (ap (λ q. run one q fs (broken o d f)) (stop (refusal 3 (place o)))) ∙ h) in
-        lost (place o) x.0 (ap (λ y. y.on) x.1 ∙ broken_off o d f)
+        lost (place o) x.0 (ap (λ y. y.on) x.1 ∙ leaves_off o d f)
 
     go : (p : Plan (Unit {0}) (Told Refusal A)) (fs : List Fate) (d : Disk) → Fair d.count p → Readable d → d.on ≡ true → run one p fs d ≡ ended t e → Fared t e
     go (done (good a)) fs d fair long on h = let x = ended_at fs h in fine a x.0 (ap (λ y. y.on) x.1 ∙ on) (subst Readable (sym x.1) long)
@@ -88,7 +80,7 @@ fares {A} {p} {d} {e} {t} fair long on r = go p r.fates d fair long on r.comes
     go (call u o k) (f ∷ fs) d fair long on h =
         let w = way_on o d f fair.0 on in
         at_way o k fs d f fair.1
-        (λ q. go (k (good (answered o d))) fs (carried o d f) (subst (λ n. Fair n (k (good (answered o d)))) (sym (carried_count o d f)) (fair.2 _ (gives o d fair.0 long))) (carried_readable o d f fair.0 long) (carried_on o d f ∙ on) q)
+        (λ q. go (k (good (answered o d))) fs (carried o d f) (subst (λ n. Fair n (k (good (answered o d)))) (sym (same_count passes o d f)) (fair.2 _ (gives o d fair.0 long))) (carried_readable o d f fair.0 long) (carried_on o d f ∙ on) q)
         f.goes
         (sym (ap (λ v. run one (k (told_by v o d)) fs (after_by v o d f)) w) ∙ h)
 

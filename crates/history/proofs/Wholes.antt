@@ -8,7 +8,7 @@ use Rattle.recovery.proofs.Allowed.{Allowed, by_way}
 use Rattle.history.specs.Steps.{sizes}
 use Rattle.history.proofs.Invariant.{Wholes}
 
-same_count : (w : Way) (o : Op) (d : Disk) (f : Fate) → (after_by w o d f).count ≡ d.count
+pub same_count : (w : Way) (o : Op) (d : Disk) (f : Fate) → (after_by w o d f).count ≡ d.count
 same_count passes (reads l s) d f = refl
 same_count passes (writes s b) d f = refl
 same_count passes flushes d f = refl

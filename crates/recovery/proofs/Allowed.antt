@@ -1,13 +1,14 @@
 -- What every write of a plan may leave, every run of it leaves: good, refused or broken off.
-use Rattle.std.proofs.Common.{◌≡◌, ℕ, Bool, cond, eqb, List, [], ◌∷◌, sym, subst, ⊎_elim}
+use Rattle.std.proofs.Common.{◌≡◌, ℕ, Bool, cond, eqb, ◌⊎◌, List, [], ◌∷◌, sym, subst, inl, inr, ⊎_elim}
 use Rattle.std.specs.List.{ContainsAt as Has}
 use Rattle.std.proofs.ByRecursion.{has_push_cases}
 use Rattle.std.proofs.lemmas.Bool.{eq-eqb, ne_eqb, cond-true, cond-false, cases_eq}
-use Rattle.device.specs.Disk.{Bytes, Cell, possibilities, kept, thin, torn, Disk, Fate, Op, reads, writes, flushes, Way, passes, leaves, refuses, way, Told, good, refused, Refusal, told_by, after_by, Cut}
+use Rattle.device.specs.Disk.{Bytes, Cell, possibilities, kept, thin, torn, Disk, Fate, Op, reads, writes, flushes, Way, passes, leaves, refuses, way, carried, Told, good, refused, Refusal, told_by, after_by, Cut}
 use Rattle.device.specs.Plans.{Plan, done, call, ended, run, Runs, one, Steps, bind, onward}
 use Rattle.device.proofs.Possible.{kept_has, last_has}
 use Rattle.device.proofs.Ruled.{torn_tears}
 use Rattle.device.proofs.Steps.{never}
+use Rattle.device.proofs.Uses.{Went, went_on, left_in, was_refused, went}
 use Rattle.recovery.specs.Readings.{image}
 use Rattle.recovery.specs.Standing.{Within}
 
@@ -49,6 +50,15 @@ module _ (A : ℕ → Bytes → Type 0) where
   by_way leaves (writes s bytes) d f ok h = λ t. struck_within s t d bytes f ok h
   by_way leaves flushes d f ok h = λ t. thin_within t (d.cells t) (f.keeps t) (h t)
   by_way (refuses n p) o d f ok h = h
+
+  -- one call and then the rest, or it broke off there
+  pub call_step : (o : Op) (p : Steps) {d e : Disk} {t : Told Refusal (Unit {0})} → Allowed o → Within A d → Runs one (call tt o (λ t. onward t (λ _. p))) d t e → ((f : Fate) × Runs one p (carried o d f) t e × Within A (carried o d f)) ⊎ Within A e
+  call_step o p {d} {e} {t} ok w r = by (went r)
+    where
+      by : Went {B = Unit {0}} one tt o (λ _. p) d t e → ((f : Fate) × Runs one p (carried o d f) t e × Within A (carried o d f)) ⊎ Within A e
+      by (went_on f is q) = inl (f, q, by_way passes o d f ok w)
+      by (left_in f is a y) = inr (subst (Within A) (sym y) (by_way leaves o d f ok w))
+      by (was_refused f n p is a y) = inr (subst (Within A) (sym y) w)
 
   -- all writes of a plan are allowed
   abbrev pub Writes : {X : Type 0} → Plan (Unit {0}) X → Type 0

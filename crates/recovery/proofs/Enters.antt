@@ -1,9 +1,9 @@
 -- Entering an exception, wherever it breaks off.
 use Rattle.std.proofs.Common.{◌≡◌, ℕ, zero, suc, ◌+◌, ◌*◌, ◌/◌, ◌%◌, ◌<◌, ◌≤◌, Bool, true, false, ◌⊎◌, List, length, replicate, sym, refl, ap, ◌∙◌, subst, inl, inr, ⊎_elim, le_refl, mod-lt, mul_assoc, arith}
 use Rattle.std.proofs.lemmas.Bool.{eq-eqb, cases_eq, cases_lt}
-use Rattle.device.specs.Disk.{Bytes, Disk, flushes, leaves, put, settled, Told, good, refused, Refusal}
+use Rattle.device.specs.Disk.{Bytes, Disk, flushes, put, settled, Told, good, refused, Refusal}
 use Rattle.device.specs.Plans.{Plan, Runs, one, onward, zeroing}
-use Rattle.device.proofs.Uses.{Went, went_on, left_in, was_refused, went, over as run_over, halves}
+use Rattle.device.proofs.Uses.{over as run_over, halves}
 use Rattle.device.proofs.Possible.{last_has}
 use Rattle.device.specs.Sectors.{only}
 use Rattle.layout.specs.declared.chunk.ChunkSize.{ChunkSize}
@@ -16,7 +16,7 @@ use Rattle.store.specs.Steps.{shape_of, finished, flushing, storing, preparing}
 use Rattle.recovery.specs.Readings.{Image, image}
 use Rattle.recovery.specs.Standing.{Within, ValidHeader, Standing, Presence, StandingShows}
 use Rattle.recovery.specs.Breaks.{more, EnteringLeaves, EnteringStands}
-use Rattle.recovery.proofs.Allowed.{Writes, on_good, run_within, by_way, cut_within}
+use Rattle.recovery.proofs.Allowed.{Writes, on_good, run_within, call_step, cut_within}
 use Rattle.recovery.proofs.Finds.{sectors_within}
 use Rattle.recovery.proofs.Pictures.{pic_past, length_more, pic_more}
 use Rattle.recovery.proofs.Places.{same_sector, same_area, not_header, placed, placed_at, beyond, fills_mod, fills_div}
@@ -141,16 +141,18 @@ entering_leaves {There} shows z size es x d e after t stands listed r cut =
     old : Within (Standing (shape_of z size) es) e → Answer
     old w = inl (shows z size es (image after) stands.listed (cut_within _ w cut))
 
-    flushed : (mid : Disk) → Within (Standing (shape_of z size) es) mid → ((a i : ℕ) → per_area c * a ≡ length es + 1 → i < c → image mid (area_start c a + i) ≡ replicate 512 0) → Went {B = Unit {0}} one tt flushes (λ _. storing (area_place c (length es / 32)) (pic (more es x) (length es / 32))) mid t e → Answer
-    flushed mid w zeros (went_on f is q) =
-        let within = run_within (Between z size es x) (storing_writes _ _ _ (entry_between z size es x)) q (settled_between z size es x mid w zeros) in
-        ⊎_elim (λ was. inl (shows z size es (image after) stands.listed was)) (λ new. inr (shows z size (more es x) (image after) listed new)) (between_stands z size es x (image after) (cut_within _ within cut))
-    flushed mid w zeros (left_in f is a y) = old (subst (Within _) (sym y) (by_way _ leaves flushes mid f tt w))
-    flushed mid w zeros (was_refused f n p is a y) = old (subst (Within _) (sym y) w)
+    flushed : (mid : Disk) → Within (Standing (shape_of z size) es) mid → ((a i : ℕ) → per_area c * a ≡ length es + 1 → i < c → image mid (area_start c a + i) ≡ replicate 512 0) → Runs one rest mid t e → Answer
+    flushed mid w zeros q =
+        ⊎_elim
+        (λ s.
+        let within = run_within (Between z size es x) (storing_writes _ _ _ (entry_between z size es x)) s.1 (settled_between z size es x mid w zeros) in
+        ⊎_elim (λ was. inl (shows z size es (image after) stands.listed was)) (λ new. inr (shows z size (more es x) (image after) listed new)) (between_stands z size es x (image after) (cut_within _ within cut)))
+        old
+        (call_step _ flushes (storing (area_place c (length es / 32)) (pic (more es x) (length es / 32))) tt w q)
 
     by : (told : Told Refusal (Unit {0})) (mid : Disk) → Runs one (preparing (fills_area c (length es)) c (length es / per_area c + 1)) d told mid → Runs one (onward told (λ _. rest)) mid t e → Answer
     by (refused f) mid first q = old (subst (Within _) (sym (run_over q).1) (run_within _ (preparing_writes z size es x (fills_area c (length es))) first stands.sectors))
-    by (good u) mid first q = flushed mid (run_within _ (preparing_writes z size es x (fills_area c (length es))) first stands.sectors) (zeros_next z size es x first) (went q)
+    by (good u) mid first q = flushed mid (run_within _ (preparing_writes z size es x (fills_area c (length es))) first stands.sectors) (zeros_next z size es x first) q
 
 pub entering_stands : EnteringStands
 entering_stands z size es x d e stands listed r =

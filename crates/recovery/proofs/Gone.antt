@@ -24,7 +24,7 @@ Passes o d = (w : Way) → tests o d w ≡ w
 pub refused_gone : (o : Op) (d : Disk) (f : Fate) (n p : ℕ) → Passes o d → way o d f ≡ refuses n p → Gone (refusal n p) d
 refused_gone o d f n p ok is = let q = by_power o d.on f n p (sym (ok _) ∙ is) in record { place = place o; is = q.0; off = q.1 }
 
-leaves_off : (o : Op) (d : Disk) (f : Fate) → (after_by leaves o d f).on ≡ false
+pub leaves_off : (o : Op) (d : Disk) (f : Fate) → (after_by leaves o d f).on ≡ false
 leaves_off (reads len s) d f = refl
 leaves_off (writes s b) d f = refl
 leaves_off flushes d f = refl

@@ -18,6 +18,7 @@ use Rattle.recovery.specs.Readings.{image}
 use Rattle.recovery.specs.Data.{IsData, DataKept}
 use Rattle.recovery.proofs.Allowed.{Allowed, Writes, on_good, run_within, then_writes}
 use Rattle.recovery.proofs.Enters.{zeroing_writes, storing_writes}
+use Rattle.recovery.proofs.Gone.{leaves_off}
 use Rattle.recovery.proofs.Zeros.{put_elsewhere}
 
 -- WHERE DATA IS NOT
@@ -42,9 +43,7 @@ off_stays : (w : Way) (o : Op) (d : Disk) (f : Fate) → d.on ≡ false → (aft
 off_stays passes (reads len s) d f is = is
 off_stays passes (writes s bytes) d f is = is
 off_stays passes flushes d f is = is
-off_stays leaves (reads len s) d f is = refl
-off_stays leaves (writes s bytes) d f is = refl
-off_stays leaves flushes d f is = refl
+off_stays leaves o d f is = leaves_off o d f
 off_stays (refuses n p) o d f is = is
 
 off_ends : {X : Type 0} (p : Plan (Unit {0}) X) (fs : List Fate) (d e : Disk) (x : X) → run one p fs d ≡ ended x e → d.on ≡ false → e.on ≡ false
@@ -62,9 +61,7 @@ step_reads : (s : ℕ) (w : Way) (o : Op) (d e : Disk) (f : Fate) → Allowed (E
 step_reads s passes (reads len t) d e f ok off on = refl
 step_reads s passes (writes t bytes) d e f ok off on = put_elsewhere d t bytes f s (λ is. ok (sym is))
 step_reads s passes flushes d e f ok off on = refl
-step_reads s leaves (reads len t) d e f ok off on = absurd (true≢false (sym on ∙ off refl))
-step_reads s leaves (writes t bytes) d e f ok off on = absurd (true≢false (sym on ∙ off refl))
-step_reads s leaves flushes d e f ok off on = absurd (true≢false (sym on ∙ off refl))
+step_reads s leaves o d e f ok off on = absurd (true≢false (sym on ∙ off (leaves_off o d f)))
 step_reads s (refuses n p) o d e f ok off on = refl
 
 run_reads : {X : Type 0} (s : ℕ) (p : Plan (Unit {0}) X) (fs : List Fate) (d e : Disk) (x : X) → Writes (Elsewhere s) p → run one p fs d ≡ ended x e → e.on ≡ true → image e s ≡ image d s

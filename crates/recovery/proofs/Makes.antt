@@ -2,22 +2,22 @@
 use Rattle.std.proofs.Common.{◌≡◌, ℕ, ◌+◌, ◌*◌, ◌<◌, ◌≤◌, true, ◌⊎◌, [], replicate, sym, refl, ap, ◌∙◌, subst, inl, inr, ⊎_elim, mul-le-mul_right, arith}
 use Rattle.std.specs.List.{ContainsAt as Has}
 use Rattle.std.proofs.lemmas.Bool.{cases_eq}
-use Rattle.device.specs.Disk.{Bytes, Disk, Fate, possibilities, writes, flushes, passes, leaves, put, settled, Told, good, refused, Refusal, Cut}
+use Rattle.device.specs.Disk.{Bytes, Disk, Fate, possibilities, writes, flushes, put, settled, Told, good, refused, Refusal, Cut}
 use Rattle.device.specs.Plans.{Runs, one, Steps, onward, then, zeroing}
 use Rattle.device.proofs.Possible.{last_has}
 use Rattle.device.specs.Sectors.{only}
-use Rattle.device.proofs.Uses.{Went, went_on, left_in, was_refused, went, over as run_over, halves}
+use Rattle.device.proofs.Uses.{over as run_over, halves}
 use Rattle.layout.specs.declared.chunk.ChunkSize.{ChunkSize}
 use Rattle.layout.specs.Chunks.{sectors, per_area, area_start}
 use Rattle.layout.specs.Headers.{header, header_read}
 use Rattle.layout.proofs.Back.{header_back}
 use Rattle.store.specs.Image.{Sizes, well_shaped, header_found}
 use Rattle.store.specs.Scanning.{most_areas}
-use Rattle.store.specs.Steps.{shape_of, writing, flushing, storing, making}
+use Rattle.store.specs.Steps.{shape_of, flushing, storing, making}
 use Rattle.recovery.specs.Readings.{image, scanned, next}
 use Rattle.recovery.specs.Standing.{Within, Standing, Listed, Presence, StandingShows}
 use Rattle.recovery.specs.Breaks.{AfterMaking, MakingLeaves, MakingStands}
-use Rattle.recovery.proofs.Allowed.{Writes, run_within, by_way, cut_within}
+use Rattle.recovery.proofs.Allowed.{Writes, run_within, call_step, cut_within}
 use Rattle.recovery.proofs.Enters.{zeroing_writes, storing_writes}
 use Rattle.recovery.proofs.Finds.{sectors_within}
 use Rattle.recovery.proofs.Pictures.{pic_past}
@@ -54,24 +54,6 @@ making_stands z size d e shape r =
     record { listed = listed_none z size shape; single = λ x has. settled_single last 0 x s.1 has; sectors = λ t x has. subst (Standing (shape_of z size) [] t) (ap (λ y. image y t) (sym s.1) ∙ settled_single last t x s.1 has) (standing t) }
 
 -- BROKEN OFF
-
--- a write and then the rest, or it broke off there
-write_step : (A : ℕ → Bytes → Type 0) (s : ℕ) (bytes : Bytes) (p : Steps) {d e : Disk} {t : Told Refusal (Unit {0})} → A s bytes → Within A d → Runs one (writing s bytes p) d t e → ((f : Fate) × Runs one p (put d s bytes f) t e × Within A (put d s bytes f)) ⊎ Within A e
-write_step A s bytes p {d} {e} {t} ok w r = by (went r)
-  where
-    by : Went {B = Unit {0}} one tt (writes s bytes) (λ _. p) d t e → ((f : Fate) × Runs one p (put d s bytes f) t e × Within A (put d s bytes f)) ⊎ Within A e
-    by (went_on f is q) = inl (f, q, by_way A passes (writes s bytes) d f ok w)
-    by (left_in f is a y) = inr (subst (Within A) (sym y) (by_way A leaves (writes s bytes) d f ok w))
-    by (was_refused f n p is a y) = inr (subst (Within A) (sym y) w)
-
--- a flush and then the rest, or it broke off there
-flush_step : (A : ℕ → Bytes → Type 0) (p : Steps) {d e : Disk} {t : Told Refusal (Unit {0})} → Within A d → Runs one (flushing p) d t e → Runs one p (settled d) t e ⊎ Within A e
-flush_step A p {d} {e} {t} w r = by (went r)
-  where
-    by : Went {B = Unit {0}} one tt flushes (λ _. p) d t e → Runs one p (settled d) t e ⊎ Within A e
-    by (went_on f is q) = inl q
-    by (left_in f is a y) = inr (subst (Within A) (sym y) (by_way A leaves flushes d f tt w))
-    by (was_refused f n p is a y) = inr (subst (Within A) (sym y) w)
 
 module _ {There : Presence} (shows : StandingShows There) (z : Sizes) (size : ChunkSize) (shape : well_shaped z (sectors size) ≡ true) (d after : Disk) where
   abbrev c : ℕ
@@ -135,7 +117,7 @@ module _ {There : Presence} (shows : StandingShows There) (z : Sizes) (size : Ch
   last_part = flushing (storing 0 (header true c))
 
   third_part : {mid e : Disk} {t : Told Refusal (Unit {0})} → Within Second mid → Within Third (settled mid) → Runs one last_part mid t e → Cut e after → AfterMaking There z size d after
-  third_part w begins r cut = ⊎_elim (λ q. third_left (run_within Third (storing_writes Third 0 (header true c) header_third) q begins) cut) (λ h. second_left h cut) (flush_step Second (storing 0 (header true c)) w r)
+  third_part w begins r cut = ⊎_elim (λ q. third_left (run_within Third (storing_writes Third 0 (header true c) header_third) q.1 begins) cut) (λ h. second_left h cut) (call_step Second flushes (storing 0 (header true c)) tt w r)
 
   zeros_second : Writes Second (zeroing (area_start c 0) c)
   zeros_second = zeroing_writes Second c (area_start c 0) (λ i l is. absurd (not_header c 0 i l is))
@@ -150,9 +132,9 @@ module _ {There : Presence} (shows : StandingShows There) (z : Sizes) (size : Ch
   first_part : {e : Disk} {t : Told Refusal (Unit {0})} → Runs one (making c) d t e → Cut e after → AfterMaking There z size d after
   first_part r cut =
       ⊎_elim
-      (λ a. ⊎_elim (λ q. second_part (second_begins a.0) q cut) (λ h. first_left h cut) (flush_step First (then (zeroing (area_start c 0) c) (λ _. last_part)) a.2 a.1))
+      (λ a. ⊎_elim (λ q. second_part (second_begins a.0) q.1 cut) (λ h. first_left h cut) (call_step First flushes (then (zeroing (area_start c 0) c) (λ _. last_part)) tt a.2 a.1))
       (λ h. first_left h cut)
-      (write_step First 0 blank (flushing (then (zeroing (area_start c 0) c) (λ _. last_part))) (inr (refl, refl)) (λ s b has. inl has) r)
+      (call_step First (writes 0 blank) (flushing (then (zeroing (area_start c 0) c) (λ _. last_part))) (inr (refl, refl)) (λ s b has. inl has) r)
 
 pub making_leaves : {There : Presence} → StandingShows There → MakingLeaves making There
 making_leaves shows z size d e after t shape r cut = first_part shows z size shape d after r cut

@@ -2,7 +2,7 @@
 use Rattle.std.proofs.Common.{◌≡◌, ℕ, zero, suc, ◌+◌, ◌*◌, ◌<◌, eqb, take, drop, replicate, refl, ap, ◌∙◌, subst, arith, drop-drop}
 use Rattle.std.specs.List.{ContainsAt as Has}
 use Rattle.std.proofs.lemmas.Bool.{eq-eqb, ne_eqb, cond-true, cond-false}
-use Rattle.device.specs.Disk.{Bytes, Disk, Fate, writes, flushes, settled, possibilities, Told, good, refused, Refusal, put}
+use Rattle.device.specs.Disk.{Bytes, Disk, Fate, Op, writes, flushes, carried, settled, possibilities, Told, good, refused, Refusal, put}
 use Rattle.device.specs.Plans.{Plan, call, Runs, one, onward, then, zeroing, spreading}
 use Rattle.store.specs.Steps.{storing}
 use Rattle.device.specs.Sectors.{only}
@@ -18,49 +18,37 @@ module _ (d : Disk) (s : ℕ) (bytes : Bytes) (f : Fate) where
   pub put_elsewhere : (t : ℕ) → (t ≡ s → ⊥) → image (put d s bytes f) t ≡ image d t
   put_elsewhere t ne = cond-false (eqb t s) _ _ (ne_eqb t s ne)
 
--- zeros over a range: below it nothing changes, and in it zeros are read
-pub zeros_below : (n s : ℕ) {d e : Disk} → Runs one (zeroing s n) d (good tt) e → (t : ℕ) → t < s → image e t ≡ image d t
-zeros_below zero s r t h = ap (λ y. image y t) (run_over r).1
-zeros_below (suc n) s {d} {e} r t h = by (λ m q. zeros_below n (s + 1) {d = m} q t (omega arith)) (went r)
-  where
-    by : ((m : Disk) → Runs one (zeroing (s + 1) n) m (good tt) e → image e t ≡ image m t) → Went {B = Unit {0}} one tt (writes s (replicate 512 0)) (λ _. zeroing (s + 1) n) d (good tt) e → image e t ≡ image d t
-    by on (went_on f is q) = on _ q ∙ put_elsewhere d s (replicate 512 0) f t (omega arith)
-    by on (left_in f is a y) = not_good a
-    by on (was_refused f m p is a y) = not_good a
-
-pub zeros_read : (n s : ℕ) {d e : Disk} → Runs one (zeroing s n) d (good tt) e → (i : ℕ) → i < n → image e (s + i) ≡ replicate 512 0
-zeros_read zero s r i h = absurd (omega arith)
-zeros_read (suc n) s {d} {e} r i h = by (λ m q k l. zeros_read n (s + 1) {d = m} q k l) i h (went r)
-  where
-    by : ((m : Disk) → Runs one (zeroing (s + 1) n) m (good tt) e → (k : ℕ) → k < n → image e ((s + 1) + k) ≡ replicate 512 0) → (i : ℕ) → i < suc n → Went {B = Unit {0}} one tt (writes s (replicate 512 0)) (λ _. zeroing (s + 1) n) d (good tt) e → image e (s + i) ≡ replicate 512 0
-    by on zero l (went_on f is q) =
-        let at : s + 0 ≡ s = omega arith in
-        ap (image e) at ∙ zeros_below n (s + 1) q s (omega arith) ∙ put_here d s (replicate 512 0) f
-    by on (suc i) l (went_on f is q) = let at : s + suc i ≡ (s + 1) + i = omega arith in ap (image e) at ∙ on _ q i (omega arith)
-    by on i l (left_in f is a y) = not_good a
-    by on i l (was_refused f m p is a y) = not_good a
-
 -- after a flush each sector has what it reads alone
 pub settled_single : (mid : Disk) {e : Disk} (t : ℕ) (b : Bytes) → e ≡ settled mid → Has (possibilities (e.cells t)) b → image e t ≡ b
 settled_single mid t b is has = ap (λ y. image y t) is ∙ only (subst (λ y. Has (possibilities (y.cells t)) b) is has)
 
--- a good flush, then the rest
-pub flushed_good : {X : Type 0} {p : Plan (Unit {0}) (Told Refusal X)} {d e : Disk} {x : X} → Runs one (call tt flushes (λ t. onward t (λ _. p))) d (good x) e → Runs one p (settled d) (good x) e
-flushed_good {X} {p} {d} {e} {x} r = by (went r)
+-- a good call, then the rest
+called_good : {X : Type 0} (o : Op) {p : Plan (Unit {0}) (Told Refusal X)} {d e : Disk} {x : X} → Runs one (call tt o (λ t. onward t (λ _. p))) d (good x) e → (f : Fate) × Runs one p (carried o d f) (good x) e
+called_good {X} o {p} {d} {e} {x} r = by (went r)
   where
-    by : Went {B = X} one tt flushes (λ _. p) d (good x) e → Runs one p (settled d) (good x) e
-    by (went_on f is q) = q
-    by (left_in f is a y) = not_good a
-    by (was_refused f m n is a y) = not_good a
-
--- a good write, then the rest
-pub written_good : {X : Type 0} {s : ℕ} {bytes : Bytes} {p : Plan (Unit {0}) (Told Refusal X)} {d e : Disk} {x : X} → Runs one (call tt (writes s bytes) (λ t. onward t (λ _. p))) d (good x) e → (f : Fate) × Runs one p (put d s bytes f) (good x) e
-written_good {X} {s} {bytes} {p} {d} {e} {x} r = by (went r)
-  where
-    by : Went {B = X} one tt (writes s bytes) (λ _. p) d (good x) e → (f : Fate) × Runs one p (put d s bytes f) (good x) e
+    by : Went {B = X} one tt o (λ _. p) d (good x) e → (f : Fate) × Runs one p (carried o d f) (good x) e
     by (went_on f is q) = (f, q)
     by (left_in f is a y) = not_good a
     by (was_refused f m n is a y) = not_good a
+
+pub flushed_good : {X : Type 0} {p : Plan (Unit {0}) (Told Refusal X)} {d e : Disk} {x : X} → Runs one (call tt flushes (λ t. onward t (λ _. p))) d (good x) e → Runs one p (settled d) (good x) e
+flushed_good r = (called_good flushes r).1
+
+pub written_good : {X : Type 0} {s : ℕ} {bytes : Bytes} {p : Plan (Unit {0}) (Told Refusal X)} {d e : Disk} {x : X} → Runs one (call tt (writes s bytes) (λ t. onward t (λ _. p))) d (good x) e → (f : Fate) × Runs one p (put d s bytes f) (good x) e
+written_good {s = s} {bytes = bytes} r = called_good (writes s bytes) r
+
+-- zeros over a range: below it nothing changes, and in it zeros are read
+zeros_below : (n s : ℕ) {d e : Disk} → Runs one (zeroing s n) d (good tt) e → (t : ℕ) → t < s → image e t ≡ image d t
+zeros_below zero s r t h = ap (λ y. image y t) (run_over r).1
+zeros_below (suc n) s {d} r t h = let w = written_good r in zeros_below n (s + 1) w.1 t (omega arith) ∙ put_elsewhere d s (replicate 512 0) w.0 t (omega arith)
+
+pub zeros_read : (n s : ℕ) {d e : Disk} → Runs one (zeroing s n) d (good tt) e → (i : ℕ) → i < n → image e (s + i) ≡ replicate 512 0
+zeros_read zero s r i h = absurd (omega arith)
+zeros_read (suc n) s {d} {e} r zero h =
+    let w = written_good r in
+    let at : s + 0 ≡ s = omega arith in
+    ap (image e) at ∙ zeros_below n (s + 1) w.1 s (omega arith) ∙ put_here d s (replicate 512 0) w.0
+zeros_read (suc n) s {d} {e} r (suc i) h = let at : s + suc i ≡ (s + 1) + i = omega arith in ap (image e) at ∙ zeros_read n (s + 1) (written_good r).1 i (omega arith)
 
 -- a good spreading: its sectors read as the parts, and others as before
 pub spread_elsewhere : (n s : ℕ) (bytes : Bytes) {d e : Disk} → Runs one (spreading s n bytes) d (good tt) e → (u : ℕ) → ((i : ℕ) → i < n → u ≡ s + i → ⊥) → image e u ≡ image d u
