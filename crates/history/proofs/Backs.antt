@@ -5,7 +5,7 @@ use Rattle.std.specs.List.{ContainsAt as Has, AllByRecursion}
 use Rattle.std.proofs.ByRecursion.{All-from_get_or, All-drop}
 use Rattle.std.proofs.lemmas.Bool.{false≢true, cond-true, lt-ltb, or_left, or_right, or_cases, or_parts, eqb-true, eqb-false, eq-eqb, cases_eq}
 use Rattle.device.specs.Disk.{Bytes, Disk, possibilities, Told, good, refused}
-use Rattle.device.specs.Plans.{done, Runs, both, Side, origin, cow, Disks, side, with_side, then, gathering, spreading}
+use Rattle.device.specs.Plans.{done, Runs, both, origin, cow, Disks, with_side, then, gathering, spreading}
 use Rattle.device.proofs.Uses.{over as run_over}
 use Rattle.layout.specs.declared.exception.Exception.{Exception}
 use Rattle.layout.specs.Chunks.{sectors, per_area, in_copy}
@@ -26,7 +26,7 @@ use Rattle.history.proofs.Invariant.{Fewer, fewer_refl}
 use Rattle.history.proofs.Moves.{Gains}
 use Rattle.history.proofs.Partly.{table_length}
 use Rattle.history.proofs.Placing.{placed_drop, has_chunk_more}
-use Rattle.history.proofs.Sides.{Live, FewerBoth, WentOff, live, ReadBoth, reads_good, reads_off, reads_chunk, SpreadBoth, spreads_good, spreads_off, spreads_side, off_as}
+use Rattle.history.proofs.Sides.{Live, WentOff, live, live_origin, reads_chunk, asked_then, SpreadBoth, spreads_good, spreads_off, spreads_side, off_as}
 use Rattle.history.proofs.Splits.{Then, stopped, went_on, then_parts}
 use Rattle.history.proofs.Spots.{reads_copy}
 use Rattle.history.proofs.Tables.{found_append, listed_lookup, item_lookup}
@@ -36,39 +36,6 @@ use Rattle.history.proofs.Wholes.{sizes_stay}
 -- a sector by its chunk and its place there
 in_chunk : (c s k : ℕ) → s / c ≡ k → s ≡ k * c + s % c
 in_chunk c s k is = sym (div-add-mod' s c) ∙ ap (λ x. x * c + s % c) is
-
--- STEPS
-
--- another origin that is on, and whole
-pub live_origin : {m : Disks} (o : Disk) → Live m → o.on ≡ true → Readable o → Live (with_side origin m o)
-live_origin {m} o l on long = record { on = λ x. is_on x; long = λ x. is_long x }
-  where
-    is_on : (x : Side) → (side x (with_side origin m o)).on ≡ true
-    is_on origin = on
-    is_on cow = l.on cow
-
-    is_long : (x : Side) → Readable (side x (with_side origin m o))
-    is_long origin = long
-    is_long cow = l.long cow
-
--- a chunk read, and then k of its bytes; or a device went
-reads_then : {B : Type 0} (x : Side) (n s : ℕ) (k : Bytes → Moves B) {m e : Disks} {t : Told Fault B} → Live m → s + n ≤ (side x m).count → Runs both (then (at_side x (gathering s n [])) k) m t e → (WentOff t e × FewerBoth m e) ⊎ Runs both (k (gathered (image (side x m)) s n [])) m t e
-reads_then {B} x n s k {m} {e} {t} l inside r = by (then_parts (at_side x (gathering s n [])) k r)
-  where
-    want : Bytes
-    want = gathered (image (side x m)) s n []
-
-    ended : (f : Fault) → t ≡ refused f → ReadBoth m want (refused f) e → (WentOff t e × FewerBoth m e) ⊎ Runs both (k want) m t e
-    ended f is (reads_good wrong same) = cc
-    ended f is (reads_off off few) = inl (off_as is off, few)
-
-    goes : (a : Bytes) (mid : Disks) → Runs both (k a) mid t e → ReadBoth m want (good a) mid → (WentOff t e × FewerBoth m e) ⊎ Runs both (k want) m t e
-    goes a mid q (reads_good is same) = let bytes : a ≡ want = cc in inr (subst (λ y. Runs both (k want) y t e) same (subst (λ b. Runs both (k b) mid t e) bytes q))
-    goes a mid q (reads_off off few) = cc
-
-    by : Then (at_side x (gathering s n [])) k m t e → (WentOff t e × FewerBoth m e) ⊎ Runs both (k want) m t e
-    by (stopped f q is) = ended f is (reads_chunk x n s l inside q)
-    by (went_on a mid q rest) = goes a mid rest (reads_chunk x n s l inside q)
 
 -- COPYING BACK
 
@@ -160,7 +127,7 @@ module _ (p : Plain) (d : Disks) (v : p.void ≡ false) (up : Up p (serving p.ch
         ⊎_elim
         (λ x. inl (x.0, subst (λ y. Fewer y e.cow) before.cow x.1.cow, λ s b l has. may_more p js (k ∷ []) m.origin before.possible s b l (x.1.origin.possible s b has)))
         (λ z. by (then_parts (at_side origin (spreading (k * c) c bytes)) (λ _. more) z))
-        (reads_then cow c (q * c) (λ b. then (at_side origin (spreading (k * c) c b)) (λ _. more)) before.live on.1 r)
+        (asked_then (at_side cow (gathering (q * c) c [])) (λ b. then (at_side origin (spreading (k * c) c b)) (λ _. more)) (λ u y z. reads_chunk cow c (q * c) before.live on.1 z) r)
       where
         Result : Type 0
         Result = (WentOff t e × Fewer d.cow e.cow × May p (js ++ (k ∷ [])) e.origin) ⊎ ((mid : Disks) × Copied p (js ++ (k ∷ [])) d mid × Runs both more mid t e)

@@ -24,12 +24,12 @@ use Rattle.history.specs.Faults.{Fault, passed_up, Moves, flush, in_store}
 use Rattle.history.specs.Steps.{sizes, both_on, Memory, closed, serving, invalid, Outcome, giving, guarded, copying_back, Merged, merged_by, run_merging, step_merging, merging_step, step_tests, merge_step, ground}
 use Rattle.history.specs.History.{Situation, step_merge, merged, replied, told_merged, Happens}
 use Rattle.history.specs.Machine.{Plain, has_chunk, chunk_of, table_of, run_length, merged_partly, up_to, broken_off}
-use Rattle.history.proofs.Backs.{Copied, May, Copying, copied_all, copied_off, live_origin, run_back}
+use Rattle.history.proofs.Backs.{Copied, May, Copying, copied_all, copied_off, run_back}
 use Rattle.history.proofs.Droppings.{Dropped, drops_good, drops_off, drops}
 use Rattle.history.proofs.Ends.{Up, Down, Ends, good_end, off_end, down_by}
 use Rattle.history.proofs.Invariant.{Wholes, Fewer, fewer_chosen, cut_fewer}
 use Rattle.history.proofs.Partly.{table_length, run_few, among_last, none_last, Back, left_in_run, CopiesKept, partly_covers, WholeRun, partly_up}
-use Rattle.history.proofs.Sides.{WentOff, FlushBoth, flushes_good, flushes_off, flushes_side, off_as}
+use Rattle.history.proofs.Sides.{WentOff, live_origin, flushes_side, asked_then, off_as}
 use Rattle.history.proofs.Splits.{Then, stopped, went_on, After, then_parts, after_parts, At, at_one, at_store, called_parts}
 use Rattle.history.proofs.Standings.{stands_lists, in_copy_data, single_choice}
 use Rattle.history.proofs.Tables.{listed_lookup}
@@ -159,19 +159,11 @@ module _ (p : Plain) (d : Disks) (k : ℕ) (v : p.void ≡ false) (up : Up p (se
 
     -- before that the origin is flushed
     flush_comes : {m : Disks} → Copied p (drop left p.diverged) d m → Runs both (then (flush origin) (λ _. in_store (drop_run c (table_of p)))) m t e → Came t e
-    flush_comes {m} before q = by (then_parts (flush origin) (λ _. in_store (drop_run c (table_of p))) q)
-      where
-        ended : (f : Fault) → t ≡ refused f → FlushBoth origin m (refused f) e → Came t e
-        ended f is (flushes_good wrong same) = cc
-        ended f is (flushes_off off few) = came_off (off_as is off) (off_early whole size off.gone (subst (λ y. Fewer y e.cow) before.cow few.cow) (λ s b l has. before.possible s b l (few.origin.possible s b has)))
-
-        goes : (b : Bytes) (mid : Disks) → Runs both (in_store (drop_run c (table_of p))) mid t e → FlushBoth origin m (good b) mid → Came t e
-        goes b mid rest (flushes_good is same) = drop_comes before (subst (λ y. Runs both (in_store (drop_run c (table_of p))) y t e) same rest)
-        goes b mid rest (flushes_off off few) = cc
-
-        by : Then (flush origin) (λ _. in_store (drop_run c (table_of p))) m t e → Came t e
-        by (stopped f z is) = ended f is (flushes_side origin before.live z)
-        by (went_on b mid z rest) = goes b mid rest (flushes_side origin before.live z)
+    flush_comes before q =
+        ⊎_elim
+        (λ x. came_off x.0 (off_early whole size x.0.gone (subst (λ y. Fewer y e.cow) before.cow x.1.cow) (λ s b l has. before.possible s b l (x.1.origin.possible s b has))))
+        (drop_comes before)
+        (asked_then (flush origin) (λ _. in_store (drop_run c (table_of p))) (λ u y z. flushes_side origin before.live z) q)
 
     -- and before that the run is copied back
     steps_come : Runs both (then (copying_back (ground d) p.chunk (the_run c (table_of p))) (λ _. then (flush origin) (λ _. in_store (drop_run c (table_of p))))) d t e → Came t e

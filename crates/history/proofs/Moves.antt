@@ -26,10 +26,10 @@ only_writes B o ok = (ok, λ t. ends t)
 
 -- READS
 
--- what steps that only read come to: their bytes and no change, or the device went
-pub data DidRead (d : Disk) (want : Bytes) (t : Told Refusal Bytes) (e : Disk) : Type 0 where
-  read_good : t ≡ good want → e ≡ d → DidRead d want t e
-  read_off : (p : ℕ) → t ≡ refused (refusal 3 p) → e.on ≡ false → Fewer d e → DidRead d want t e
+-- what steps that write nothing come to: the bytes that are wanted, and device n; or the device went
+pub data Asked (d : Disk) (want : Bytes) (n : Disk) (t : Told Refusal Bytes) (e : Disk) : Type 0 where
+  asked_good : t ≡ good want → e ≡ n → Asked d want n t e
+  asked_off : (p : ℕ) → t ≡ refused (refusal 3 p) → e.on ≡ false → Fewer d e → Asked d want n t e
 
 gathering_quiet : (B : ℕ → Bytes → Type 0) (n s : ℕ) (sofar : Bytes) → Writes B (gathering s n sofar)
 gathering_quiet B zero s sofar = tt
@@ -49,15 +49,15 @@ gathers_good (suc n) s sofar {d} {e} {b} r = by (λ q. gathers_good n (s + 1) (s
     by more (was_refused f m p is a y) = not_good a
 
 -- n sectors read
-pub reads_range : {d e : Disk} {t : Told Refusal Bytes} (n s : ℕ) → s + n ≤ d.count → Readable d → d.on ≡ true → Runs one (gathering s n []) d t e → DidRead d (gathered (image d) s n []) t e
+pub reads_range : {d e : Disk} {t : Told Refusal Bytes} (n s : ℕ) → s + n ≤ d.count → Readable d → d.on ≡ true → Runs one (gathering s n []) d t e → Asked d (gathered (image d) s n []) d t e
 reads_range {d} {e} {t} n s inside long on r = by (fares (gathering_fair d.count n s [] inside) long on r)
   where
-    by : Fared t e → DidRead d (gathered (image d) s n []) t e
-    by (fine b is up here) = let g = gathers_good n s [] (subst (λ x. Runs one (gathering s n []) d x e) is r) in read_good (is ∙ ap good g.0) g.1
-    by (lost p is off) = read_off p is off (quiet_fewer (λ B. gathering_quiet B n s []) r)
+    by : Fared t e → Asked d (gathered (image d) s n []) d t e
+    by (fine b is up here) = let g = gathers_good n s [] (subst (λ x. Runs one (gathering s n []) d x e) is r) in asked_good (is ∙ ap good g.0) g.1
+    by (lost p is off) = asked_off p is off (quiet_fewer (λ B. gathering_quiet B n s []) r)
 
 -- one sector read
-pub reads_one : {d e : Disk} {t : Told Refusal Bytes} (s : ℕ) → s < d.count → Readable d → d.on ≡ true → Runs one (only_call (reads 512 s)) d t e → DidRead d (image d s) t e
+pub reads_one : {d e : Disk} {t : Told Refusal Bytes} (s : ℕ) → s < d.count → Readable d → d.on ≡ true → Runs one (only_call (reads 512 s)) d t e → Asked d (image d s) d t e
 reads_one {d} {e} {t} s here long on r = reads_range 1 s (omega arith) long on (subst (λ p. Runs one p d t e) same r)
   where
     agree : (t : Told Refusal Bytes) → onward t (λ b. done (good b)) ≡ onward t (λ b. gathering (s + 1) 0 ([] ++ b))
@@ -128,18 +128,14 @@ writes_one {d} {e} {t} s bytes here size long on r = by (fares (asks_fair d.coun
 -- FLUSHES
 
 -- a flush: each sector has what it reads alone; or the device went
-pub data DidFlush (d : Disk) (t : Told Refusal Bytes) (e : Disk) : Type 0 where
-  flush_good : t ≡ good [] → e ≡ settled d → DidFlush d t e
-  flush_off : (p : ℕ) → t ≡ refused (refusal 3 p) → e.on ≡ false → Fewer d e → DidFlush d t e
-
-pub flushes_one : {d e : Disk} {t : Told Refusal Bytes} → Readable d → d.on ≡ true → Runs one (only_call flushes) d t e → DidFlush d t e
+pub flushes_one : {d e : Disk} {t : Told Refusal Bytes} → Readable d → d.on ≡ true → Runs one (only_call flushes) d t e → Asked d [] (settled d) t e
 flushes_one {d} {e} {t} long on r = by (fares (asks_fair d.count flushes (λ b. done (good b)) tt (λ b _. tt)) long on r)
   where
-    settles : (a : Bytes) → t ≡ good a → Went {B = Bytes} one tt flushes (λ b. done (good b)) d t e → DidFlush d t e
-    settles a is (went_on f w q) = let o = run_over q in flush_good o.0 o.1
+    settles : (a : Bytes) → t ≡ good a → Went {B = Bytes} one tt flushes (λ b. done (good b)) d t e → Asked d [] (settled d) t e
+    settles a is (went_on f w q) = let o = run_over q in asked_good o.0 o.1
     settles a is (left_in f w x y) = not_good (sym is ∙ x)
     settles a is (was_refused f n p w x y) = not_good (sym is ∙ x)
 
-    by : Fared t e → DidFlush d t e
+    by : Fared t e → Asked d [] (settled d) t e
     by (fine a is up here) = settles a is (went r)
-    by (lost p is off) = flush_off p is off (quiet_fewer (λ B. only_writes B flushes tt) r)
+    by (lost p is off) = asked_off p is off (quiet_fewer (λ B. only_writes B flushes tt) r)

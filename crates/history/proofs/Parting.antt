@@ -1,5 +1,5 @@
 -- A chunk without a copy is copied and entered, before a write to it.
-use Rattle.std.proofs.Common.{◌≡◌, ℕ, ◌+◌, ◌*◌, ◌/◌, ◌%◌, ◌<◌, ◌≤◌, true, false, eqb, List, [], length, Some, sym, ap, ◌∙◌, subst, inl, mod-lt, div-add-mod', arith}
+use Rattle.std.proofs.Common.{◌≡◌, ℕ, ◌+◌, ◌*◌, ◌/◌, ◌%◌, ◌<◌, ◌≤◌, true, false, eqb, List, [], length, Some, sym, ap, ◌∙◌, subst, inl, ⊎_elim, mod-lt, div-add-mod', arith}
 use Rattle.std.proofs.lemmas.Bool.{and_parts, eqb-true}
 use Rattle.device.specs.Disk.{Bytes, Disk, Told, good, refused}
 use Rattle.device.specs.Plans.{Runs, both, origin, cow, Disks, with_side, then, gathering, spreading}
@@ -19,7 +19,7 @@ use Rattle.history.proofs.Entering.{entered_both}
 use Rattle.history.proofs.Fairs.{chunk_on}
 use Rattle.history.proofs.Invariant.{Covers, Wholes, covers_fewer, cut_fewer}
 use Rattle.history.proofs.Reading.{alive}
-use Rattle.history.proofs.Sides.{WentOff, ReadBoth, reads_good, reads_off, reads_chunk, SpreadBoth, spreads_good, spreads_off, spreads_side, off_as}
+use Rattle.history.proofs.Sides.{WentOff, reads_chunk, asked_then, SpreadBoth, spreads_good, spreads_off, spreads_side, off_as}
 use Rattle.history.proofs.Splits.{Then, then_parts}
 use Rattle.history.proofs.Tables.{room_free}
 use Rattle.history.proofs.Through.{at_data}
@@ -105,21 +105,9 @@ module _ (p : Plain) (valid : p.void ≡ false) (d : Disks) (up : Up p (serving 
       λ i. then (at_side origin (gathering (chunk_of p s * sectors p.chunk) (sectors p.chunk) [])) (λ b. then (at_data (sizes d) p.chunk k (spreading (k * sectors p.chunk) (sectors p.chunk) b) place.0 on_cow i) (λ _. entering_plan))
 
   pub parts : {t : Told Fault (List Exception)} {e : Disks} → Runs both (copying (ground d) p.chunk (table_of p) (chunk_of p s) k) d t e → Parts p s t e
-  parts {t} {e} r = by (then_parts (at_side origin (gathering (chunk_of p s * sectors p.chunk) (sectors p.chunk) [])) writing_plan (subst (λ q. Runs both q d t e) copying_is r))
-    where
-      got : {u : Told Fault Bytes} {y : Disks} → Runs both (at_side origin (gathering (chunk_of p s * sectors p.chunk) (sectors p.chunk) [])) d u y → ReadBoth d bytes u y
-      got run = reads_chunk origin (sectors p.chunk) (chunk_of p s * sectors p.chunk) (alive p d _ up) chunk_here run
-
-      off_by : (f : Fault) → t ≡ refused f → ReadBoth d bytes (refused f) e → Parts p s t e
-      off_by f is (reads_good told same) = cc
-      off_by f is (reads_off off few) = still (off_as is off) (covers_fewer up.covers few.origin few.cow)
-
-      good_by : (b : Bytes) (mid : Disks) → Runs both (writing_plan b) mid t e → ReadBoth d bytes (good b) mid → Parts p s t e
-      good_by b mid rest (reads_good told same) =
-          let is : b ≡ bytes = cc in
-          writing_parts (subst (λ y. Runs both (writing_plan bytes) y t e) same (subst (λ x. Runs both (writing_plan x) mid t e) is rest))
-      good_by b mid rest (reads_off off few) = cc
-
-      by : Then (at_side origin (gathering (chunk_of p s * sectors p.chunk) (sectors p.chunk) [])) writing_plan d t e → Parts p s t e
-      by (Then.stopped f run is) = off_by f is (got run)
-      by (Then.went_on b mid run rest) = good_by b mid rest (got run)
+  parts {t} {e} r =
+      let n = sectors p.chunk in
+      ⊎_elim
+      (λ off. still off.0 (covers_fewer up.covers off.1.origin off.1.cow))
+      writing_parts
+      (asked_then (at_side origin (gathering (chunk_of p s * n) n [])) writing_plan (λ u y z. reads_chunk origin n (chunk_of p s * n) (alive p d _ up) chunk_here z) (subst (λ q. Runs both q d t e) copying_is r))

@@ -1,10 +1,9 @@
 -- Reads and flushes of an open pair.
-use Rattle.std.proofs.Common.{◌≡◌, ℕ, ◌/◌, ◌<◌, true, false, [], ◌∷◌, Some, None, Option, sym, refl, ap, ◌∙◌, subst, mod-lt, arith}
+use Rattle.std.proofs.Common.{◌≡◌, ℕ, ◌/◌, ◌<◌, false, [], ◌∷◌, Some, None, Option, sym, refl, ap, ◌∙◌, subst, mod-lt, arith}
 use Rattle.std.specs.List.{ContainsAt as Has}
 use Rattle.std.proofs.ByRecursion.{has_push}
-use Rattle.device.specs.Disk.{Bytes, Disk, possibilities, reads, settled, good, refused}
-use Rattle.device.specs.Plans.{Runs, both, Side, origin, cow, Disks, side, with_side, pair, then}
-use Rattle.device.proofs.Possible.{last_has}
+use Rattle.device.specs.Disk.{Bytes, reads, settled, Told, good, refused}
+use Rattle.device.specs.Plans.{Runs, both, Side, origin, cow, Disks, side, then}
 use Rattle.device.specs.Sectors.{only as only_one}
 use Rattle.device.proofs.Uses.{over as run_over}
 use Rattle.layout.specs.declared.chunk.ChunkSize.{ChunkSize}
@@ -13,16 +12,15 @@ use Rattle.exceptions.specs.Table.{lookup}
 use Rattle.recovery.specs.Readings.{image}
 use Rattle.recovery.specs.Standing.{Stands}
 use Rattle.recovery.proofs.Finds.{sectors_within}
-use Rattle.history.specs.Faults.{Fault, read, flush}
+use Rattle.history.specs.Faults.{Fault, Moves, read, flush}
 use Rattle.history.specs.Steps.{sizes, both_on, Memory, serving, ground, Outcome, giving, after, spot, view_steps, view_reading}
-use Rattle.history.specs.History.{Call, read_origin, read_view, flush_all, nothing, contents, replied}
+use Rattle.history.specs.History.{Call, read_origin, read_view, flush_all, Reply, nothing, contents, replied}
 use Rattle.history.specs.Machine.{Plain, table_of, chunk_of, performed, flushed, broken_off}
 use Rattle.history.proofs.Ends.{Up, Down, Ends, good_end, off_end, down_by}
-use Rattle.history.proofs.Fair.{Readable}
 use Rattle.history.proofs.Fairs.{chunk_on}
-use Rattle.history.proofs.Invariant.{Copies, Covers, Wholes, Fewer, covers_fewer, fewer_chosen, fewer_trans}
-use Rattle.history.proofs.Sides.{Live, live, FewerBoth, WentOff, ReadBoth, reads_good, reads_off, reads_side, FlushBoth, flushes_good, flushes_off, flushes_side}
-use Rattle.history.proofs.Splits.{After, after_parts, Then, then_parts}
+use Rattle.history.proofs.Invariant.{Copies, Covers, Wholes, covers_fewer, fewer_chosen}
+use Rattle.history.proofs.Sides.{Live, live, FewerBoth, AskedBoth, both_good, both_off, reads_side, rested, settled_fewer, flushes_both}
+use Rattle.history.proofs.Splits.{After, stopped, went_on, after_parts}
 use Rattle.history.proofs.Spots.{reads_origin, reads_copy}
 use Rattle.history.proofs.Tables.{listed_lookup}
 use Rattle.history.proofs.Through.{at_copy}
@@ -44,26 +42,33 @@ module _ (p : Plain) (d : Disks) (m : Memory) (up : Up p m d) where
   pub lost_nothing : {c : Call} {e : Disks} → Has (broken_off p c) p → Wholes e → sizes e ≡ sizes d → both_on e ≡ false → FewerBoth d e → Down p c e
   lost_nothing among whole same off few = down_by p whole (same ∙ up.agrees.sectors) off among (covers_fewer up.covers few.origin few.cow)
 
-  -- a read of one sector, and its bytes as the answer
-  module _ (x : Side) (s : ℕ) (c : Call) (among : Has (broken_off p c) p) (same : performed p c ≡ p) (here : s < (side x d).count) (o : Outcome Bytes) (e : Disks) (r : Runs both (after m (read x s) (λ b. giving m b)) d o e) where
-    read_ends : Ends p c (good (contents (image (side x d) s))) (replied contents o.answer) o.memory e
-    read_ends = by (after_parts m (read x s) (λ b. giving m b) r)
+  -- a call of steps that write nothing
+  module _ {A : Type 0} (f : A → Reply) (give : Bytes → A) (c : Call) (among : Has (broken_off p c) p) (steps : Moves Bytes) (want : Bytes) (n : Disks) (asks : (u : Told Fault Bytes) (y : Disks) → Runs both steps d u y → AskedBoth d want n u y) (up_then : Wholes n → Up (performed p c) m n) (o : Outcome A) (e : Disks) (r : Runs both (after m steps (λ b. giving m (give b))) d o e) where
+    asked_ends : Ends p c (good (f (give want))) (replied f o.answer) o.memory e
+    asked_ends = by (after_parts m steps (λ b. giving m (give b)) r)
       where
-        was_refused : (f : Fault) → o ≡ record { answer = refused f; memory = m } → ReadBoth d (image (side x d) s) (refused f) e → Ends p c (good (contents (image (side x d) s))) (replied contents o.answer) o.memory e
-        was_refused f is (reads_good t y) = cc
-        was_refused f is (reads_off w few) = off_end w.fault (ap (replied contents) (ap (λ y. y.answer) is ∙ w.told)) w.number (lost_nothing among (wholes_stay r up.whole) (sizes_stay r) w.gone few)
+        off_by : (g : Fault) → o ≡ record { answer = refused g; memory = m } → AskedBoth d want n (refused g) e → Ends p c (good (f (give want))) (replied f o.answer) o.memory e
+        off_by g is (both_good t y) = cc
+        off_by g is (both_off w few) =
+            let same : g ≡ w.fault = let h = w.told in cc in
+            off_end g (ap (λ y. replied f y.answer) is) (ap (λ y. y.number) same ∙ w.number) (lost_nothing among (wholes_stay r up.whole) (sizes_stay r) w.gone few)
 
-        was_good : (b : Bytes) (mid : Disks) → Runs both (giving m b) mid o e → ReadBoth d (image (side x d) s) (good b) mid → Ends p c (good (contents (image (side x d) s))) (replied contents o.answer) o.memory e
-        was_good b mid rest (reads_good t y) =
+        good_by : (b : Bytes) (mid : Disks) → Runs both (giving m (give b)) mid o e → AskedBoth d want n (good b) mid → Ends p c (good (f (give want))) (replied f o.answer) o.memory e
+        good_by b mid rest (both_good t y) =
             let q = run_over rest in
-            let bytes : b ≡ image (side x d) s = cc in
-            let told : replied contents o.answer ≡ good (contents (image (side x d) s)) = ap (λ y. replied contents y.answer) q.0 ∙ ap (λ z. good (contents z)) bytes in
-            good_end _ told told (subst (λ z. Up (performed p c) z e) (sym (ap (λ y. y.memory) q.0)) (subst (Up (performed p c) m) (sym (q.1 ∙ y)) (subst (λ z. Up z m d) (sym same) up)))
-        was_good b mid rest (reads_off w few) = cc
+            let bytes : b ≡ want = cc in
+            let told : replied f o.answer ≡ good (f (give want)) = ap (λ y. replied f y.answer) q.0 ∙ ap (λ z. good (f (give z))) bytes in
+            let end : e ≡ n = q.1 ∙ y in
+            good_end _ told told (subst (λ z. Up (performed p c) z e) (sym (ap (λ y. y.memory) q.0)) (subst (Up (performed p c) m) (sym end) (up_then (subst Wholes end (wholes_stay r up.whole)))))
+        good_by b mid rest (both_off w few) = cc
 
-        by : After m (read x s) (λ b. giving m b) d o e → Ends p c (good (contents (image (side x d) s))) (replied contents o.answer) o.memory e
-        by (After.stopped f run is) = was_refused f is (reads_side x s alive here run)
-        by (After.went_on b mid run rest) = was_good b mid rest (reads_side x s alive here run)
+        by : After m steps (λ b. giving m (give b)) d o e → Ends p c (good (f (give want))) (replied f o.answer) o.memory e
+        by (stopped g run is) = off_by g is (asks _ _ run)
+        by (went_on b mid run rest) = good_by b mid rest (asks _ _ run)
+
+  -- a read of one sector, and its bytes as the answer
+  read_ends : (x : Side) (s : ℕ) (c : Call) → Has (broken_off p c) p → performed p c ≡ p → s < (side x d).count → (o : Outcome Bytes) (e : Disks) → Runs both (after m (read x s) (λ b. giving m b)) d o e → Ends p c (good (contents (image (side x d) s))) (replied contents o.answer) o.memory e
+  read_ends x s c among same here o e r = asked_ends contents (λ b. b) c among (read x s) (image (side x d) s) d (λ u y z. reads_side x s alive here z) (λ _. subst (λ z. Up z m d) (sym same) up) o e r
 
 pub core_read_origin : (p : Plain) (d : Disks) (m : Memory) (s n : ℕ) → Up p m d → s < p.size.origin → (o : Outcome Bytes) (e : Disks) → Runs both (after m (read origin s) (λ b. giving m b)) d o e → Ends p (read_origin s n) (good (contents (p.origin s).latest)) (replied contents o.answer) o.memory e
 core_read_origin p d m s n up here o e r =
@@ -95,13 +100,6 @@ core_read_view p d s n valid up here o e r = by (lookup (table_of p) (chunk_of p
         (subst (λ q. Runs both (after mem q (λ b. giving mem b)) d o e) (at_copy p.size p.chunk (table_of p) listed.listed d up.agrees.sectors (chunk_of p s) k is (only_call (reads 512 (in_copy (sectors p.chunk) k s)))) (at_spot (Some k) is)))
 
 -- FLUSHES
-
-settled_fewer : (d : Disk) → Fewer d (settled d)
-settled_fewer d = record { count = refl; possible = λ s b has. subst (Has (possibilities (d.cells s))) (only_one has) (last_has (d.cells s)) }
-
--- both devices flushed
-abbrev pub rested : Disks → Disks
-rested d = pair (settled d.origin) (settled d.cow)
 
 rested_image : (d : Disks) (x : Side) (s : ℕ) → image (side x (rested d)) s ≡ image (side x d) s
 rested_image d origin s = refl
@@ -138,60 +136,5 @@ module _ (p : Plain) (d : Disks) (m : Memory) (up : Up p m d) where
   }
 
 pub core_flush : (p : Plain) (d : Disks) (m : Memory) → Up p m d → (o : Outcome (Unit {0})) (e : Disks) → Runs both (after m (then (flush origin) (λ _. flush cow)) (λ _. giving m tt)) d o e → Ends p flush_all (good nothing) (replied (λ _. nothing) o.answer) o.memory e
-core_flush p d m up o e r = by (after_parts m (then (flush origin) (λ _. flush cow)) (λ _. giving m tt) r)
-  where
-    Answer' : Type 0
-    Answer' = Ends p flush_all (good nothing) (replied (λ _. nothing) o.answer) o.memory e
-
-    off : (f : Fault) → WentOff {A = Bytes} (refused f) e → o ≡ record { answer = refused f; memory = m } → FewerBoth d e → Answer'
-    off f w is few =
-        let same : f ≡ w.fault = let t = w.told in cc in
-        off_end w.fault (ap (replied (λ _. nothing)) (ap (λ y. y.answer) is ∙ ap refused same)) w.number (lost_nothing p d m up (has_push [] p) (wholes_stay r up.whole) (sizes_stay r) w.gone few)
-
-    half : Disks
-    half = with_side origin d (settled d.origin)
-
-    half_live : Live half
-    half_live = record { on = on; long = long }
-      where
-        on : (x : Side) → (side x half).on ≡ true
-        on origin = (alive p d m up).on origin
-        on cow = (alive p d m up).on cow
-
-        long : (x : Side) → Readable (side x half)
-        long origin = (alive p d m up).long origin
-        long cow = (alive p d m up).long cow
-
-    second_off : (f : Fault) → o ≡ record { answer = refused f; memory = m } → FlushBoth cow half (refused f) e → Answer'
-    second_off f is (flushes_good t y) = cc
-    second_off f is (flushes_off w few) = off f w is (record { origin = fewer_trans (settled_fewer d.origin) few.origin; cow = few.cow })
-
-    second_good : (b : Bytes) (mid : Disks) → Runs both (giving m tt) mid o e → FlushBoth cow half (good b) mid → Answer'
-    second_good b mid rest (flushes_good t y) =
-        let q = run_over rest in
-        let told : replied (λ _. nothing) o.answer ≡ good nothing = ap (λ y. replied (λ _. nothing) y.answer) q.0 in
-        let end : e ≡ rested d = q.1 ∙ y in
-        good_end nothing told told (subst (λ z. Up (flushed p) z e) (sym (ap (λ y. y.memory) q.0)) (subst (Up (flushed p) m) (sym end) (flushed_up p d m up (subst Wholes end (wholes_stay r up.whole)))))
-    second_good b mid rest (flushes_off w few) = cc
-
-    first_off : (f : Fault) → o ≡ record { answer = refused f; memory = m } → FlushBoth origin d (refused f) e → Answer'
-    first_off f is (flushes_good t y) = cc
-    first_off f is (flushes_off w few) = off f w is few
-
-    first_good : {b : Bytes} {mid : Disks} → FlushBoth origin d (good b) mid → mid ≡ half
-    first_good (flushes_good t y) = y
-    first_good (flushes_off w few) = cc
-
-    by : After m (then (flush origin) (λ _. flush cow)) (λ _. giving m tt) d o e → Answer'
-    by (After.stopped f run is) = parts (then_parts (flush origin) (λ _. flush cow) run)
-      where
-        parts : Then (flush origin) (λ _. flush cow) d (refused f) e → Answer'
-        parts (Then.stopped g first told) = first_off f is (subst (λ z. FlushBoth origin d z e) (sym told) (flushes_side origin (alive p d m up) first))
-        parts (Then.went_on b mid first rest) =
-            second_off f is (flushes_side cow half_live (subst (λ z. Runs both (flush cow) z (refused f) e) (first_good (flushes_side origin (alive p d m up) first)) rest))
-    by (After.went_on b mid run rest) = parts (then_parts (flush origin) (λ _. flush cow) run)
-      where
-        parts : Then (flush origin) (λ _. flush cow) d (good b) mid → Answer'
-        parts (Then.stopped g first told) = cc
-        parts (Then.went_on b' half' first second) =
-            second_good b mid rest (flushes_side cow half_live (subst (λ z. Runs both (flush cow) z (good b) mid) (first_good (flushes_side origin (alive p d m up) first)) second))
+core_flush p d m up o e r =
+    asked_ends p d m up (λ _. nothing) (λ _. tt {0}) flush_all (has_push [] p) (then (flush origin) (λ _. flush cow)) [] (rested d) (λ u y z. flushes_both (alive p d m up) z) (flushed_up p d m up) o e r

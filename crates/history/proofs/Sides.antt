@@ -1,19 +1,21 @@
 -- What steps at one of the two devices leave of both.
-use Rattle.std.proofs.Common.{◌≡◌, ℕ, ◌+◌, ◌*◌, ◌<◌, ◌≤◌, true, false, [], length, sym, refl, ap, ◌∙◌, subst}
+use Rattle.std.proofs.Common.{◌≡◌, ℕ, ◌+◌, ◌*◌, ◌<◌, ◌≤◌, true, false, ◌⊎◌, [], length, sym, refl, ap, ◌∙◌, subst, subst₂, inl, inr, ⊎_elim}
+use Rattle.std.specs.List.{ContainsAt as Has}
 use Rattle.std.proofs.lemmas.Bool.{and_parts, and_left, and_right}
-use Rattle.device.specs.Disk.{Bytes, Disk, reads, writes, flushes, settled, Told, good, refused, Refusal, refusal}
-use Rattle.device.specs.Plans.{Runs, both, Side, origin, cow, Disks, side, with_side, with_same, raised, gathering, spreading}
+use Rattle.device.specs.Disk.{Bytes, Disk, reads, writes, flushes, possibilities, settled, Told, good, refused, Refusal, refusal}
+use Rattle.device.specs.Plans.{Plan, Runs, both, Side, origin, cow, Disks, pair, then, side, with_side, with_same, raised, gathering, spreading}
 use Rattle.device.proofs.Possible.{last_has}
+use Rattle.device.specs.Sectors.{only}
 use Rattle.recovery.specs.Readings.{image, gathered}
 use Rattle.recovery.specs.Standing.{Within}
 use Rattle.recovery.proofs.Gathered.{part}
-use Rattle.history.specs.Faults.{Fault, passed_up, at_side, read, write, flush}
+use Rattle.history.specs.Faults.{Fault, Moves, passed_up, at_side, read, write, flush}
 use Rattle.store.specs.Steps.{only_call}
 use Rattle.history.specs.Steps.{both_on}
-use Rattle.history.proofs.Invariant.{Wholes, Fewer, fewer_refl}
+use Rattle.history.proofs.Invariant.{Wholes, Fewer, fewer_refl, fewer_trans}
 use Rattle.history.proofs.Fair.{Readable}
-use Rattle.history.proofs.Moves.{Gains, GainsOne, DidRead, read_good, read_off, reads_one, reads_range, DidWrite, write_good, write_off, writes_range, DidPut, put_good, put_off, writes_one, DidFlush, flush_good, flush_off, flushes_one}
-use Rattle.history.proofs.Splits.{At, at_one}
+use Rattle.history.proofs.Moves.{Asked, asked_good, asked_off, Gains, GainsOne, reads_one, reads_range, DidWrite, write_good, write_off, writes_range, DidPut, put_good, put_off, writes_one, flushes_one}
+use Rattle.history.proofs.Splits.{At, at_one, Then, stopped, went_on, then_parts}
 
 -- both devices are on, and whole
 pub record Live (d : Disks) : Type 0 where
@@ -43,6 +45,18 @@ live {d} on w = record { on = λ x. is_on x; long = λ x. is_long x }
     is_long origin = λ s l. w.origin.long s _ l (last_has (d.origin.cells s))
     is_long cow = λ s l. w.cow.long s _ l (last_has (d.cow.cells s))
 
+-- another origin that is on, and whole
+pub live_origin : {m : Disks} (o : Disk) → Live m → o.on ≡ true → Readable o → Live (with_side origin m o)
+live_origin {m} o l on long = record { on = λ x. is_on x; long = λ x. is_long x }
+  where
+    is_on : (x : Side) → (side x (with_side origin m o)).on ≡ true
+    is_on origin = on
+    is_on cow = l.on cow
+
+    is_long : (x : Side) → Readable (side x (with_side origin m o))
+    is_long origin = long
+    is_long cow = l.long cow
+
 -- one device gone, and one with fewer possibilities
 pub off_side : (x : Side) (d : Disks) (w : Disk) → w.on ≡ false → both_on (with_side x d w) ≡ false
 off_side origin d w h = and_left w.on d.cow.on h
@@ -71,23 +85,59 @@ off_as {A} {B} {t} {f} is off =
     let same : f ≡ off.fault = cc in
     record { fault = off.fault; told = is ∙ ap refused same; number = off.number; gone = off.gone }
 
--- READS
+-- READS AND FLUSHES
 
--- bytes and no change, or a device went
-pub data ReadBoth (d : Disks) (want : Bytes) (t : Told Fault Bytes) (e : Disks) : Type 0 where
-  reads_good : t ≡ good want → e ≡ d → ReadBoth d want t e
-  reads_off : WentOff t e → FewerBoth d e → ReadBoth d want t e
+-- what steps that write nothing come to: the bytes that are wanted, and devices n; or a device went
+pub data AskedBoth (d : Disks) (want : Bytes) (n : Disks) (t : Told Fault Bytes) (e : Disks) : Type 0 where
+  both_good : t ≡ good want → e ≡ n → AskedBoth d want n t e
+  both_off : WentOff t e → FewerBoth d e → AskedBoth d want n t e
 
-module _ (x : Side) {d e : Disks} {t : Told Fault Bytes} {want : Bytes} where
-  from_read : {u : Told Refusal Bytes} {w : Disk} → t ≡ raised (passed_up x) u → e ≡ with_side x d w → DidRead (side x d) want u w → ReadBoth d want t e
-  from_read told left (read_good is same) = reads_good (told ∙ ap (raised (passed_up x)) is) (left ∙ ap (with_side x d) same ∙ with_same x d)
-  from_read {w = w} told left (read_off q is off few) = reads_off (went_off x d w q told left is off) (subst (FewerBoth d) (sym left) (fewer_side x d w few))
+from_one : (x : Side) {d n e : Disks} {t : Told Fault Bytes} {want : Bytes} {m : Disk} {p : Plan (Unit {0}) (Told Refusal Bytes)} → with_side x d m ≡ n → (a : At Refusal Bytes x p (passed_up x) d t e) → Asked (side x d) want m a.answer a.disk → AskedBoth d want n t e
+from_one x {d} there a (asked_good is same) = both_good (a.told ∙ ap (raised (passed_up x)) is) (a.left ∙ ap (with_side x d) same ∙ there)
+from_one x {d} there a (asked_off q is off few) = both_off (went_off x d a.disk q a.told a.left is off) (subst (FewerBoth d) (sym a.left) (fewer_side x d a.disk few))
 
-pub reads_side : (x : Side) (s : ℕ) {d e : Disks} {t : Told Fault Bytes} → Live d → s < (side x d).count → Runs both (read x s) d t e → ReadBoth d (image (side x d) s) t e
-reads_side x s l here r = let a = at_one x (only_call (reads 512 s)) r in from_read x a.told a.left (reads_one s here (l.long x) (l.on x) a.ran)
+pub reads_side : (x : Side) (s : ℕ) {d e : Disks} {t : Told Fault Bytes} → Live d → s < (side x d).count → Runs both (read x s) d t e → AskedBoth d (image (side x d) s) d t e
+reads_side x s {d} l here r = let a = at_one x (only_call (reads 512 s)) r in from_one x (with_same x d) a (reads_one s here (l.long x) (l.on x) a.ran)
 
-pub reads_chunk : (x : Side) (n s : ℕ) {d e : Disks} {t : Told Fault Bytes} → Live d → s + n ≤ (side x d).count → Runs both (at_side x (gathering s n [])) d t e → ReadBoth d (gathered (image (side x d)) s n []) t e
-reads_chunk x n s l inside r = let a = at_one x (gathering s n []) r in from_read x a.told a.left (reads_range n s inside (l.long x) (l.on x) a.ran)
+pub reads_chunk : (x : Side) (n s : ℕ) {d e : Disks} {t : Told Fault Bytes} → Live d → s + n ≤ (side x d).count → Runs both (at_side x (gathering s n [])) d t e → AskedBoth d (gathered (image (side x d)) s n []) d t e
+reads_chunk x n s {d} l inside r = let a = at_one x (gathering s n []) r in from_one x (with_same x d) a (reads_range n s inside (l.long x) (l.on x) a.ran)
+
+pub flushes_side : (x : Side) {d e : Disks} {t : Told Fault Bytes} → Live d → Runs both (flush x) d t e → AskedBoth d [] (with_side x d (settled (side x d))) t e
+flushes_side x l r = let a = at_one x (only_call flushes) r in from_one x refl a (flushes_one (l.long x) (l.on x) a.ran)
+
+-- such steps and then the rest; or a device went
+pub asked_then : {B : Type 0} (p : Moves Bytes) (k : Bytes → Moves B) {d n e : Disks} {want : Bytes} {t : Told Fault B} → ((u : Told Fault Bytes) (y : Disks) → Runs both p d u y → AskedBoth d want n u y) → Runs both (then p k) d t e → (WentOff t e × FewerBoth d e) ⊎ Runs both (k want) n t e
+asked_then {B} p k {d} {n} {e} {want} {t} asks r = by (then_parts p k r)
+  where
+    ended : (f : Fault) → t ≡ refused f → AskedBoth d want n (refused f) e → (WentOff t e × FewerBoth d e) ⊎ Runs both (k want) n t e
+    ended f is (both_good wrong same) = cc
+    ended f is (both_off off few) = inl (off_as is off, few)
+
+    goes : (a : Bytes) (mid : Disks) → Runs both (k a) mid t e → AskedBoth d want n (good a) mid → (WentOff t e × FewerBoth d e) ⊎ Runs both (k want) n t e
+    goes a mid q (both_good is same) = let bytes : a ≡ want = cc in inr (subst₂ (λ b y. Runs both (k b) y t e) bytes same q)
+    goes a mid q (both_off off few) = cc
+
+    by : Then p k d t e → (WentOff t e × FewerBoth d e) ⊎ Runs both (k want) n t e
+    by (stopped f q is) = ended f is (asks _ _ q)
+    by (went_on a mid q rest) = goes a mid rest (asks _ _ q)
+
+-- both devices flushed
+abbrev pub rested : Disks → Disks
+rested d = pair (settled d.origin) (settled d.cow)
+
+pub settled_fewer : (d : Disk) → Fewer d (settled d)
+settled_fewer d = record { count = refl; possible = λ s b has. subst (Has (possibilities (d.cells s))) (only has) (last_has (d.cells s)) }
+
+pub flushes_both : {d e : Disks} {t : Told Fault Bytes} → Live d → Runs both (then (flush origin) (λ _. flush cow)) d t e → AskedBoth d [] (rested d) t e
+flushes_both {d} {e} {t} l r =
+    ⊎_elim
+    (λ x. both_off x.0 x.1)
+    (λ q. second (flushes_side cow (live_origin (settled d.origin) l (l.on origin) (l.long origin)) q))
+    (asked_then (flush origin) (λ _. flush cow) (λ u y z. flushes_side origin l z) r)
+  where
+    second : AskedBoth (with_side origin d (settled d.origin)) [] (rested d) t e → AskedBoth d [] (rested d) t e
+    second (both_good is same) = both_good is same
+    second (both_off off few) = both_off off (record { origin = fewer_trans (settled_fewer d.origin) few.origin; cow = few.cow })
 
 -- WRITES
 
@@ -120,20 +170,3 @@ spreads_side x n s bytes {d} {e} {t} l inside size r = by (writes_range n s byte
     by : DidWrite (side x d) s n bytes a.answer a.disk → SpreadBoth x d s n bytes t e
     by (write_good u is on long here else gains) = spreads_good a.disk (a.told ∙ ap (raised (passed_up x)) is) a.left on long here else gains
     by (write_off q is off gains) = spreads_off a.disk (went_off x d a.disk q a.told a.left is off) a.left gains
-
--- FLUSHES
-
--- one device flushed, or a device went
-pub data FlushBoth (x : Side) (d : Disks) (t : Told Fault Bytes) (e : Disks) : Type 0 where
-  flushes_good : t ≡ good [] → e ≡ with_side x d (settled (side x d)) → FlushBoth x d t e
-  flushes_off : WentOff t e → FewerBoth d e → FlushBoth x d t e
-
-pub flushes_side : (x : Side) {d e : Disks} {t : Told Fault Bytes} → Live d → Runs both (flush x) d t e → FlushBoth x d t e
-flushes_side x {d} {e} {t} l r = by (flushes_one (l.long x) (l.on x) a.ran)
-  where
-    a : At Refusal Bytes x (only_call flushes) (passed_up x) d t e
-    a = at_one x (only_call flushes) r
-
-    by : DidFlush (side x d) a.answer a.disk → FlushBoth x d t e
-    by (flush_good is same) = flushes_good (a.told ∙ ap (raised (passed_up x)) is) (a.left ∙ ap (with_side x d) same)
-    by (flush_off q is off few) = flushes_off (went_off x d a.disk q a.told a.left is off) (subst (FewerBoth d) (sym a.left) (fewer_side x d a.disk few))
