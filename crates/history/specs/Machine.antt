@@ -102,19 +102,19 @@ run_length p = last_run (sectors p.chunk) (table_of p)
 
 -- another origin
 abbrev pub with_origin : Plain → (ℕ → Cell) → Plain
-with_origin p o = record { size = p.size; chunk = p.chunk; origin = o; view = p.view; diverged = p.diverged; void = p.void }
+with_origin p o = record p { origin = o }
 
 -- another view
 abbrev pub with_view : Plain → (ℕ → Cell) → Plain
-with_view p v = record { size = p.size; chunk = p.chunk; origin = p.origin; view = v; diverged = p.diverged; void = p.void }
+with_view p v = record p { view = v }
 
 -- other diverged chunks
 abbrev pub with_diverged : Plain → List ℕ → Plain
-with_diverged p ks = record { size = p.size; chunk = p.chunk; origin = p.origin; view = p.view; diverged = ks; void = p.void }
+with_diverged p ks = record p { diverged = ks }
 
 -- the view is void
 abbrev pub voided : Plain → Plain
-voided p = record { size = p.size; chunk = p.chunk; origin = p.origin; view = p.view; diverged = p.diverged; void = true }
+voided p = record p { void = true }
 
 -- the chunk of a sector diverges, if it has not
 abbrev pub diverge : Plain → ℕ → Plain
@@ -143,15 +143,12 @@ merged_partly r j p =
     let n = length p.diverged in
     let gone = drop (n - j) p.diverged in
     let rest = take (r - j) (drop (n - r) p.diverged) in
-    record {
-      size = p.size;
-      chunk = p.chunk;
+    record p {
       origin = λ s.
           cond (has_chunk gone (chunk_of p s)) (settled_cell (p.view s))
           (cond (has_chunk rest (chunk_of p s)) (perhaps (p.view s).latest (p.origin s)) (p.origin s));
       view = λ s. cond (has_chunk gone (chunk_of p s)) (settled_cell (p.view s)) (p.view s);
       diverged = take (n - j) p.diverged;
-      void = p.void;
     }
 
 -- after a flush
@@ -216,13 +213,13 @@ mode_by (reopen w) x = x
 
 -- a call, by how it ended
 abbrev pub next : Machine → Call → End → Machine
-next m c completed = record { plain = performed m.plain c; opened = opened_by c m.opened; mode = mode_by c m.mode; pending = m.pending }
-next m c under_way = record { plain = m.plain; opened = m.opened; mode = m.mode; pending = Some c }
+next m c completed = record m { plain = performed m.plain c; opened = opened_by c m.opened; mode = mode_by c m.mode }
+next m c under_way = record m { pending = Some c }
 next m c not_done = m
 
 -- a fresh pair on the same disks
 abbrev pub fresh : Machine → Machine
-fresh m = record { plain = m.plain; opened = false; mode = plain; pending = m.pending }
+fresh m = record m { opened = false; mode = plain }
 
 -- a pair just made
 abbrev pub made : ChunkSize → Disks → Machine

@@ -78,21 +78,21 @@ begins not_done = false
 
 -- THE VIEW KEEPS WHAT IT IS OWED
 
+-- P of its bytes where the call is a write at s of the view that counts; else Q
+abbrev pub AtWrite : Kind → Bool → ℕ → (Bytes → Type 0) → Type 0 → Type 0
+AtWrite (writes_view t b) counts s P Q = cond (counts && t == s) (P b) Q
+AtWrite (writes_origin t) counts s P Q = Q
+AtWrite flushes counts s P Q = Q
+AtWrite uses_snapshot counts s P Q = Q
+AtWrite apart counts s P Q = Q
+
 -- P of its bytes where the call is a write at s of the view that was completed; else Q
 abbrev pub Last : Kind → End → ℕ → (Bytes → Type 0) → Type 0 → Type 0
-Last (writes_view t b) e s P Q = cond (completes e && t == s) (P b) Q
-Last (writes_origin t) e s P Q = Q
-Last flushes e s P Q = Q
-Last uses_snapshot e s P Q = Q
-Last apart e s P Q = Q
+Last k e s P Q = AtWrite k (completes e) s P Q
 
 -- P of its bytes or Q, where the call is a write at s of the view that was completed or under way; else Q
 abbrev pub Perhaps : Kind → End → ℕ → (Bytes → Type 0) → Type 0 → Type 0
-Perhaps (writes_view t b) e s P Q = cond (begins e && t == s) (P b ⊎ Q) Q
-Perhaps (writes_origin t) e s P Q = Q
-Perhaps flushes e s P Q = Q
-Perhaps uses_snapshot e s P Q = Q
-Perhaps apart e s P Q = Q
+Perhaps k e s P Q = AtWrite k (begins e) s (λ b. P b ⊎ Q) Q
 
 -- b was written to sector s of the view since the last completed flush or power cut, or is what s showed then; making counts as a flush
 abbrev pub Candidate : {start w : Situation} → History start w → ℕ → Bytes → Type 0
@@ -143,12 +143,16 @@ found_full w flushes e = false
 found_full w uses_snapshot e = false
 found_full w apart e = false
 
+-- some call of a history, begun in a situation and with an answer, is so
+abbrev pub SomeCall : (Situation → Call → Answer → Bool) → {start w : Situation} → History start w → Type 0
+SomeCall so begun = ⊥
+SomeCall so (next_call {w} h c a after x) = T (so w c a) ⊎ SomeCall so h
+SomeCall so (cut h after x) = SomeCall so h
+SomeCall so (rejoin h after x) = SomeCall so h
+
 -- some origin write of a history, good or under way, found the store full
 abbrev pub FoundFull : {start w : Situation} → History start w → Type 0
-FoundFull begun = ⊥
-FoundFull (next_call {w} h c a after x) = T (found_full w (kind c) (ending a)) ⊎ FoundFull h
-FoundFull (cut h after x) = FoundFull h
-FoundFull (rejoin h after x) = FoundFull h
+FoundFull h = SomeCall (λ w c a. found_full w (kind c) (ending a)) h
 
 -- a fresh pair opens while both devices answer, unless an origin write found the store full
 abbrev pub Reopens : Situation → Type 0
@@ -164,10 +168,7 @@ is_invalid_refusal (refused f) = f.number == 6
 
 -- some call of a history was refused as invalid
 abbrev pub RefusedInvalid : {start w : Situation} → History start w → Type 0
-RefusedInvalid begun = ⊥
-RefusedInvalid (next_call h c a after x) = T (is_invalid_refusal a) ⊎ RefusedInvalid h
-RefusedInvalid (cut h after x) = RefusedInvalid h
-RefusedInvalid (rejoin h after x) = RefusedInvalid h
+RefusedInvalid h = SomeCall (λ w c a. is_invalid_refusal a) h
 
 -- once refused as invalid, a snapshot is never served again
 abbrev pub StaysInvalid : Situation → Type 0

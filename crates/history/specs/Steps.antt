@@ -127,6 +127,12 @@ abbrev pub guarded : {A : Type 0} → Memory → Option Fault → Plan Side (Out
 guarded m None p = p
 guarded m (Some f) p = refusing m f
 
+-- k on what the pair remembers; a closed pair and an invalid one refuse
+abbrev pub while_serving : {A : Type 0} → Memory → (ChunkSize → List Exception → Plan Side (Outcome A)) → Plan Side (Outcome A)
+while_serving closed k = refusing closed (pair_fault 4)
+while_serving invalid k = refusing invalid (pair_fault 6)
+while_serving (serving size table) k = k size table
+
 -- MAKING AND OPENING
 
 -- making with a size of chunks: the devices fit it; the origin is flushed, then an empty store is made
@@ -191,10 +197,8 @@ view_steps g size s (Some k) = in_store (copy_read (shape_of g.size size) k s 51
 
 -- the read itself, by what is remembered
 abbrev pub view_reading : Ground → Memory → ℕ → Plan Side (Outcome Bytes)
-view_reading g closed s = refusing closed (pair_fault 4)
-view_reading g invalid s = refusing invalid (pair_fault 6)
-view_reading g (serving size table) s =
-    after (serving size table) (view_steps g size s (lookup table (s / sectors size))) (λ b. giving (serving size table) b)
+view_reading g m s =
+    while_serving m (λ size table. after (serving size table) (view_steps g size s (lookup table (s / sectors size))) (λ b. giving (serving size table) b))
 
 -- a snapshot read, and a merging read
 abbrev pub view_read : Ground → Memory → ℕ → ℕ → Plan Side (Outcome Bytes)
@@ -262,9 +266,7 @@ snapshot_served g size table s bytes (Some p) = copy_put g size table s bytes p
 
 -- a snapshot write, by what is remembered
 abbrev pub snapshot_writing : Ground → Memory → ℕ → Bytes → Plan Side (Outcome (Unit {0}))
-snapshot_writing g closed s bytes = refusing closed (pair_fault 4)
-snapshot_writing g invalid s bytes = refusing invalid (pair_fault 6)
-snapshot_writing g (serving size table) s bytes = snapshot_served g size table s bytes (lookup table (s / sectors size))
+snapshot_writing g m s bytes = while_serving m (λ size table. snapshot_served g size table s bytes (lookup table (s / sectors size)))
 
 -- the tests of a snapshot write
 abbrev pub snapshot_write_tests : Ground → Memory → ℕ → Bytes → ℕ → Option Fault
@@ -281,9 +283,7 @@ merging_put g size table s bytes (Some p) = copy_put g size table s bytes p
 
 -- a merging write, by what is remembered
 abbrev pub merging_writing : Ground → Memory → ℕ → Bytes → Plan Side (Outcome (Unit {0}))
-merging_writing g closed s bytes = refusing closed (pair_fault 4)
-merging_writing g invalid s bytes = refusing invalid (pair_fault 6)
-merging_writing g (serving size table) s bytes = merging_put g size table s bytes (lookup table (s / sectors size))
+merging_writing g m s bytes = while_serving m (λ size table. merging_put g size table s bytes (lookup table (s / sectors size)))
 
 -- the tests of a merging write
 abbrev pub merging_write_tests : Ground → Memory → ℕ → Bytes → Option Fault
@@ -379,9 +379,7 @@ step_merging g size (x ∷ xs) = run_merging g size (x ∷ xs)
 
 -- a merge step, by what is remembered
 abbrev pub merging_step : Ground → Memory → Plan Side (Outcome Merged)
-merging_step g closed = refusing closed (pair_fault 4)
-merging_step g invalid = refusing invalid (pair_fault 6)
-merging_step g (serving size table) = step_merging g size table
+merging_step g m = while_serving m (step_merging g)
 
 -- the tests of a merge step
 abbrev pub step_tests : Ground → Memory → ℕ → Option Fault
