@@ -119,17 +119,9 @@ idle_has m on = subst (λ o. Has (cut_short m.plain o) m.plain) (sym on.idle) (o
 -- a still call leaves all
 still_same : (c : Call) → still c ≡ true → (kind c ≡ apart) × ((p : Plain) → performed p c ≡ p)
 still_same ask_status is = (refl, λ p. refl)
-still_same ask_merge is = absurd (both_ways _ refl is)
-still_same (read_origin s n) is = absurd (both_ways _ refl is)
-still_same (read_view s n) is = absurd (both_ways _ refl is)
-still_same (write_origin s b w) is = absurd (both_ways _ refl is)
-still_same (write_snapshot s b w) is = absurd (both_ways _ refl is)
-still_same (write_merging s b) is = absurd (both_ways _ refl is)
-still_same flush_all is = absurd (both_ways _ refl is)
 still_same begin_merge is = (refl, λ p. refl)
-still_same (step_merge w) is = absurd (both_ways _ refl is)
 still_same leave_merge is = (refl, λ p. refl)
-still_same (reopen w) is = absurd (both_ways _ refl is)
+still_same c is = absurd (both_ways _ refl is)
 
 module _ {start w : Situation} (h : History start w) (c : Call) (a : Answer) (after : Situation) (x : Happens w c a after) (m : Machine) (kept : KeptBy h m) (follows : Follows m c a) where
   void_by : RefusedInvalid (next_call h c a after x) → m.plain.void ≡ true

@@ -115,18 +115,12 @@ onto_both p t b f gains =
 
 -- what a completed call comes to
 pub comes_performed : (p : Plain) (c : Call) → Comes p (kind c) (performed p c)
-comes_performed p ask_status = comes_same p _
-comes_performed p ask_merge = comes_same p _
-comes_performed p (read_origin s n) = comes_same p _
-comes_performed p (read_view s n) = comes_same p _
 comes_performed p (write_origin s b w) = onto_origin p _ (added b) s (ready p s) (comes_ready p s)
 comes_performed p (write_snapshot s b w) = onto_view p s b (added b) (added_gains b) (diverge p s) (comes_diverged p _ s)
 comes_performed p (write_merging s b) = onto_both p s b (added b) (added_gains b)
 comes_performed p flush_all = comes_flushed p _
-comes_performed p begin_merge = comes_same p _
 comes_performed p (step_merge w) = comes_merged p _ _ _
-comes_performed p leave_merge = comes_same p _
-comes_performed p (reopen w) = comes_same p _
+comes_performed p c = comes_same p _
 
 all_of : {X : Type 0} (P : X → Type 0) → ((x : X) → P x) → (xs : List X) → AllByRecursion P xs
 all_of P h [] = tt
@@ -134,10 +128,6 @@ all_of P h (x ∷ xs) = (h x, all_of P h xs)
 
 -- what a call under way may come to
 broken_all : (p : Plain) (c : Call) → AllByRecursion (Comes p (kind c)) (broken_off p c)
-broken_all p ask_status = (comes_same p _, tt)
-broken_all p ask_merge = (comes_same p _, tt)
-broken_all p (read_origin s n) = (comes_same p _, tt)
-broken_all p (read_view s n) = (comes_same p _, tt)
 broken_all p (write_origin s b w) =
     cond_both (p.void || diverged_at p s) _ _ (AllByRecursion (Comes p (writes_origin s)))
     (λ _. (onto_origin p _ (perhaps b) s p (comes_same p _), tt))
@@ -147,11 +137,8 @@ broken_all p (write_snapshot s b w) =
     (λ _. (onto_view p s b (perhaps b) (perhaps_gains b) p (comes_same p _), tt))
     (λ _. (comes_same p _, (onto_view p s b (perhaps b) (perhaps_gains b) (diverge p s) (comes_diverged p _ s), tt)))
 broken_all p (write_merging s b) = (onto_both p s b (perhaps b) (perhaps_gains b), tt)
-broken_all p flush_all = (comes_same p _, tt)
-broken_all p begin_merge = (comes_same p _, tt)
 broken_all p (step_merge w) = All-map (Comes p uses_snapshot) (λ j. merged_partly (run_length p) j p) (up_to (run_length p)) (all_of _ (λ j. comes_merged p _ (run_length p) j) (up_to (run_length p)))
-broken_all p leave_merge = (comes_same p _, tt)
-broken_all p (reopen w) = (comes_same p _, tt)
+broken_all p c = (comes_same p _, tt)
 
 pub comes_broken : (p : Plain) (c : Call) (came : Plain) → Has (broken_off p c) came → Comes p (kind c) came
 comes_broken p c came h = all-has (Comes p (kind c)) (broken_off p c) came (broken_all p c) h
@@ -165,31 +152,19 @@ perhaps_old (writes_view t b) e s P Q q = go (begins e && eqb t s)
     go : (x : Bool) → cond x (P b ⊎ Q) Q
     go true = inr q
     go false = q
-perhaps_old (writes_origin t) e s P Q q = q
-perhaps_old flushes e s P Q q = q
-perhaps_old uses_snapshot e s P Q q = q
-perhaps_old apart e s P Q q = q
+perhaps_old k e s P Q q = q
 
 -- the bytes of a write that began are possible
 pub perhaps_from : (k : Kind) (e : End) (s : ℕ) (y : Bytes) (Q : Type 0) → begins e ≡ true → Q ⊎ Adds k s y → Perhaps k e s (λ z. y ≡ z) Q
 perhaps_from (writes_view t b) e s y Q on (inl q) = perhaps_old (writes_view t b) e s (λ z. y ≡ z) Q q
 perhaps_from (writes_view t b) e s y Q on (inr new) = when_true _ _ _ (and_from _ _ on (eq-eqb t s (sym new.0))) (inl (sym new.1))
-perhaps_from (writes_origin t) e s y Q on (inl q) = q
-perhaps_from (writes_origin t) e s y Q on (inr new) = absurd new
-perhaps_from flushes e s y Q on (inl q) = q
-perhaps_from flushes e s y Q on (inr new) = absurd new
-perhaps_from uses_snapshot e s y Q on (inl q) = q
-perhaps_from uses_snapshot e s y Q on (inr new) = absurd new
-perhaps_from apart e s y Q on (inl q) = q
-perhaps_from apart e s y Q on (inr new) = absurd new
+perhaps_from k e s y Q on (inl q) = q
+perhaps_from k e s y Q on (inr new) = absurd new
 
 -- a call that is not completed leaves what is owed
 pub last_old : (k : Kind) (e : End) (s : ℕ) (P : Bytes → Type 0) (Q : Type 0) → completes e ≡ false → Q → Last k e s P Q
 last_old (writes_view t b) e s P Q stop q = when_false _ _ _ (ap (λ x. x && eqb t s) stop) q
-last_old (writes_origin t) e s P Q stop q = q
-last_old flushes e s P Q stop q = q
-last_old uses_snapshot e s P Q stop q = q
-last_old apart e s P Q stop q = q
+last_old k e s P Q stop q = q
 
 module _ (Q : Bytes → Type 0) (s : ℕ) where
   last_changed : (t : ℕ) (b : Bytes) (cells : ℕ → Cell) → Q (cells s).latest → cond (eqb t s) ((changed (added b) t cells s).latest ≡ b) (Q (changed (added b) t cells s).latest)
@@ -201,10 +176,6 @@ module _ (Q : Bytes → Type 0) (s : ℕ) where
 
   -- a completed call that does not write to the view leaves what is owed, and one that does leaves its bytes
   pub last_performed : (p : Plain) (c : Call) → Q (p.view s).latest → Last (kind c) completed s (λ y. ((performed p c).view s).latest ≡ y) (Q ((performed p c).view s).latest)
-  last_performed p ask_status q = q
-  last_performed p ask_merge q = q
-  last_performed p (read_origin t n) q = q
-  last_performed p (read_view t n) q = q
   last_performed p (write_origin t b w) q =
       let P : Plain → Type 0 = λ x. Q (x.view s).latest in
       cond_both p.void p _ P (λ _. q) (λ _. cond_both (diverged_at p t) p _ P (λ _. q) (λ _. cond_both (can_diverge p) (diverge p t) (voided p) P (λ _. cond_both (diverged_at p t) p (with_diverged p _) P (λ _. q) (λ _. q)) (λ _. q)))
@@ -212,23 +183,10 @@ module _ (Q : Bytes → Type 0) (s : ℕ) where
   last_performed p (write_merging t b) q =
       let r = last_changed t b p.view q in
       cond_both (diverged_at p t) (on_view (added b) t p) (on_origin (added b) t (on_view (added b) t p)) (λ x. cond (eqb t s) ((x.view s).latest ≡ b) (Q (x.view s).latest)) (λ _. r) (λ _. r)
-  last_performed p flush_all q = q
-  last_performed p begin_merge q = q
   last_performed p (step_merge w) q = cond_both _ (settled_cell (p.view s)) (p.view s) (λ k. Q k.latest) (λ _. q) (λ _. q)
-  last_performed p leave_merge q = q
-  last_performed p (reopen w) q = q
+  last_performed p c q = q
 
 -- a flush leaves one possibility
 pub flush_settles : (p : Plain) (c : Call) → is_flush (kind c) ≡ true → (s : ℕ) → ((performed p c).view s).older ≡ []
-flush_settles p ask_status is s = absurd (both_ways _ refl is)
-flush_settles p ask_merge is s = absurd (both_ways _ refl is)
-flush_settles p (read_origin t n) is s = absurd (both_ways _ refl is)
-flush_settles p (read_view t n) is s = absurd (both_ways _ refl is)
-flush_settles p (write_origin t b w) is s = absurd (both_ways _ refl is)
-flush_settles p (write_snapshot t b w) is s = absurd (both_ways _ refl is)
-flush_settles p (write_merging t b) is s = absurd (both_ways _ refl is)
 flush_settles p flush_all is s = refl
-flush_settles p begin_merge is s = absurd (both_ways _ refl is)
-flush_settles p (step_merge w) is s = absurd (both_ways _ refl is)
-flush_settles p leave_merge is s = absurd (both_ways _ refl is)
-flush_settles p (reopen w) is s = absurd (both_ways _ refl is)
+flush_settles p c is s = absurd (both_ways _ refl is)

@@ -45,19 +45,9 @@ tests_of g m mode leave_merge = []
 tests_of g m mode (reopen w) = work_length w ∷ not_stopped g ∷ still_closed m ∷ []
 
 refusal_first : (g : Ground) (m : Memory) (mode : Mode) (c : Call) → refusal g m mode c ≡ first (tests_of g m mode c)
-refusal_first g m mode ask_status = refl
-refusal_first g m mode ask_merge = refl
-refusal_first g m mode (read_origin s n) = refl
-refusal_first g m mode (read_view s n) = refl
-refusal_first g m mode (write_origin s b w) = refl
-refusal_first g m mode (write_snapshot s b w) = refl
-refusal_first g m mode (write_merging s b) = refl
 refusal_first g m plain flush_all = refl
 refusal_first g m merging flush_all = refl
-refusal_first g m mode begin_merge = refl
-refusal_first g m mode (step_merge w) = refl
-refusal_first g m mode leave_merge = refl
-refusal_first g m mode (reopen w) = refl
+refusal_first g m mode c = refl
 
 -- a call that no test refuses passes each
 pub each_passed : (g : Ground) (m : Memory) (mode : Mode) (c : Call) → refusal g m mode c ≡ None → AllByRecursion (λ t. t ≡ None) (tests_of g m mode c)
@@ -122,17 +112,9 @@ module _ (g : Ground) (m : Memory) where
 -- a call that asks nothing of the devices
 abbrev pub still : Call → Bool
 still ask_status = true
-still ask_merge = false
-still (read_origin s n) = false
-still (read_view s n) = false
-still (write_origin s b w) = false
-still (write_snapshot s b w) = false
-still (write_merging s b) = false
-still flush_all = false
 still begin_merge = true
-still (step_merge w) = false
 still leave_merge = true
-still (reopen w) = false
+still c = false
 
 guarded_refused : {A : Type 0} (rep : A → Reply) (mode : Mode) (m : Memory) (o : Option Fault) (p : Plan Side (Outcome A)) {d e : Disks} {r : Result} (f : Fault) → o ≡ Some f → Runs both (as_call rep mode (guarded m o p)) d r e → r.answer ≡ refused f
 guarded_refused rep mode m None p f is ran = cc
@@ -142,47 +124,28 @@ guarded_refused rep mode m (Some x) p f is ran = let same : x ≡ f = cc in ap (
 refused_at_once : (g : Ground) (m : Memory) (mode : Mode) (c : Call) (f : Fault) {d e : Disks} {r : Result} → refusal g m mode c ≡ Some f → Runs both (plan_of g m mode c) d r e → r.answer ≡ refused f
 refused_at_once g m mode ask_status f is ran = cc
 refused_at_once g m mode ask_merge f is ran = ap (λ r. r.answer) (run_over ran).0 ∙ ap asked is
-refused_at_once g m mode (read_origin s n) f is ran = guarded_refused _ mode m _ _ f is ran
-refused_at_once g m mode (read_view s n) f is ran = guarded_refused _ mode m _ _ f is ran
-refused_at_once g m mode (write_origin s b w) f is ran = guarded_refused _ mode m _ _ f is ran
-refused_at_once g m mode (write_snapshot s b w) f is ran = guarded_refused _ mode m _ _ f is ran
-refused_at_once g m mode (write_merging s b) f is ran = guarded_refused _ mode m _ _ f is ran
-refused_at_once g m mode flush_all f is ran = guarded_refused _ mode m _ _ f is ran
 refused_at_once g m mode begin_merge f is ran = cc
-refused_at_once g m mode (step_merge w) f is ran = guarded_refused _ mode m _ _ f is ran
 refused_at_once g m mode leave_merge f is ran = cc
-refused_at_once g m mode (reopen w) f is ran = guarded_refused _ mode m _ _ f is ran
+refused_at_once g m mode c f is ran = guarded_refused _ mode m _ _ f is ran
 
 -- while a device is gone only a still call passes the tests
 pub runs_on : (g : Ground) (m : Memory) (mode : Mode) (c : Call) → still c ≡ false → refusal g m mode c ≡ None → g.stopped ≡ false
 runs_on g m mode ask_status moves is = absurd (both_ways _ moves refl)
 runs_on g m mode ask_merge moves is = test_passed _ _ (each_passed g m mode ask_merge is).0
-runs_on g m mode (read_origin s n) moves is = test_passed _ _ (each_passed g m mode (read_origin s n) is).1.0
-runs_on g m mode (read_view s n) moves is = test_passed _ _ (each_passed g m mode (read_view s n) is).1.0
 runs_on g m mode (write_origin s b w) moves is = test_passed _ _ (each_passed g m mode (write_origin s b w) is).1.1.0
 runs_on g m mode (write_snapshot s b w) moves is = test_passed _ _ (each_passed g m mode (write_snapshot s b w) is).1.1.0
-runs_on g m mode (write_merging s b) moves is = test_passed _ _ (each_passed g m mode (write_merging s b) is).1.0
 runs_on g m plain flush_all moves is = test_passed _ _ (each_passed g m plain flush_all is).0
 runs_on g m merging flush_all moves is = test_passed _ _ (each_passed g m merging flush_all is).0
 runs_on g m mode begin_merge moves is = absurd (both_ways _ moves refl)
-runs_on g m mode (step_merge w) moves is = test_passed _ _ (each_passed g m mode (step_merge w) is).1.0
 runs_on g m mode leave_merge moves is = absurd (both_ways _ moves refl)
-runs_on g m mode (reopen w) moves is = test_passed _ _ (each_passed g m mode (reopen w) is).1.0
+runs_on g m mode c moves is = test_passed _ _ (each_passed g m mode c is).1.0
 
 -- a still call is completed
 still_completes : (g : Ground) (m : Memory) (mode : Mode) (c : Call) {d e : Disks} {r : Result} → still c ≡ true → Runs both (plan_of g m mode c) d r e → ending r.answer ≡ completed
 still_completes g m mode ask_status is ran = ap (λ r. ending r.answer) (run_over ran).0
-still_completes g m mode ask_merge is ran = absurd (both_ways _ refl is)
-still_completes g m mode (read_origin s n) is ran = absurd (both_ways _ refl is)
-still_completes g m mode (read_view s n) is ran = absurd (both_ways _ refl is)
-still_completes g m mode (write_origin s b w) is ran = absurd (both_ways _ refl is)
-still_completes g m mode (write_snapshot s b w) is ran = absurd (both_ways _ refl is)
-still_completes g m mode (write_merging s b) is ran = absurd (both_ways _ refl is)
-still_completes g m mode flush_all is ran = absurd (both_ways _ refl is)
 still_completes g m mode begin_merge is ran = ap (λ r. ending r.answer) (run_over ran).0
-still_completes g m mode (step_merge w) is ran = absurd (both_ways _ refl is)
 still_completes g m mode leave_merge is ran = ap (λ r. ending r.answer) (run_over ran).0
-still_completes g m mode (reopen w) is ran = absurd (both_ways _ refl is)
+still_completes g m mode c is ran = absurd (both_ways _ refl is)
 
 -- how far a call came: a test refused it; or it is a still one, and completed; or it passed the tests while both devices are on
 pub data Reached (w : Situation) (c : Call) (a : Answer) : Type 0 where

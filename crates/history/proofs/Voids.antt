@@ -74,22 +74,13 @@ seven_void m f k is six = let same : store_fault 7 k 0 ≡ f = cc in absurd (bot
 
 -- a reply is refused as invalid where the view is void
 reply_void : (m : Machine) (c : Call) (f : Fault) → reply m c ≡ refused f → eqb f.number 6 ≡ true → m.plain.void ≡ true
-reply_void m ask_status f is six = cc
-reply_void m ask_merge f is six = cc
-reply_void m (read_origin s n) f is six = cc
-reply_void m (read_view s n) f is six = cc
-reply_void m (write_origin s b w) f is six = cc
 reply_void m (write_snapshot s b w) f is six =
     ⊎_elim
     (λ e. let h : ◌≡◌ {A = Answer} (good nothing) (refused f) = sym (cond-true _ _ _ e) ∙ is in cc)
     (λ e. seven_void m f (chunk_of m.plain s) (sym (cond-false _ _ _ e) ∙ is) six)
     (cases_Bool (diverged_at m.plain s || can_diverge m.plain))
-reply_void m (write_merging s b) f is six = cc
-reply_void m flush_all f is six = cc
-reply_void m begin_merge f is six = cc
-reply_void m (step_merge w) f is six = cc
-reply_void m leave_merge f is six = cc
 reply_void m (reopen w) f is six = ⊎_elim (λ e. e) (λ e. let h : ◌≡◌ {A = Answer} (good nothing) (refused f) = sym (cond-false _ _ _ e) ∙ is in cc) (cases_Bool m.plain.void)
+reply_void m c f is six = cc
 
 -- a call is refused as invalid only where the view is void
 pub refused_void : (m : Machine) (c : Call) (a : Answer) → Follows m c a → T (is_invalid_refusal a) → m.plain.void ≡ true
@@ -110,18 +101,12 @@ valid_by m a b = remembers_valid m (test_passed _ _ a) (test_passed _ _ b)
 
 -- a void view is not served
 pub void_unserved : (m : Machine) (c : Call) (r : Reply) → m.plain.void ≡ true → Served m c r → T (not (of_snapshot (kind c)))
-void_unserved m ask_status r void x = tt
-void_unserved m ask_merge r void x = tt
-void_unserved m (read_origin s n) r void x = tt
 void_unserved m (read_view s n) r void x = let ts = tests m (read_view s n) r x in absurd (both_ways _ (valid_by m ts.1.1.0 ts.1.1.1.0) void)
-void_unserved m (write_origin s b w) r void x = tt
 void_unserved m (write_snapshot s b w) r void x = let ts = tests m (write_snapshot s b w) r x in absurd (both_ways _ (valid_by m ts.1.1.1.0 ts.1.1.1.1.0) void)
 void_unserved m (write_merging s b) r void x = let ts = tests m (write_merging s b) r x in absurd (both_ways _ (valid_by m ts.1.1.0 ts.1.1.1.0) void)
-void_unserved m flush_all r void x = tt
-void_unserved m begin_merge r void x = tt
 void_unserved m (step_merge w) r void x = let ts = tests m (step_merge w) r x in absurd (both_ways _ (valid_by m ts.1.1.0 ts.1.1.1.0) void)
-void_unserved m leave_merge r void x = tt
 void_unserved m (reopen w) r void x = let h : ◌≡◌ {A = Answer} (good r) (refused (store_fault 6 0 0)) = x.says ∙ cond-true _ _ _ void in cc
+void_unserved m c r void x = tt
 
 -- FULL STORES
 
