@@ -12,7 +12,7 @@ use Rattle.history.specs.Steps.{sizes}
 use Rattle.history.specs.Machine.{Plain, added, perhaps, changed, chunk_of, diverged_at, table_of, on_origin, on_view, reads_at, Agrees}
 use Rattle.history.proofs.Invariant.{Covers}
 use Rattle.history.proofs.Moves.{GainsOne}
-use Rattle.history.proofs.Spots.{reads_origin, reads_copy}
+use Rattle.history.proofs.Spots.{uncopied, reads_origin, reads_copy}
 
 -- CELLS
 
@@ -121,12 +121,7 @@ module _ (p : Plain) (d : Disks) (w : Disk) (s : ℕ) (b : Bytes) (same : w.coun
     }
       where
         differs : p.void ≡ false → (t : ℕ) → lookup (table_of p) (chunk_of p t) ≡ None → t ≡ s → ⊥
-        differs v t none is = elim_copy (Rattle.history.proofs.Spots.a_copy p s (div v))
-          where
-            elim_copy : (k : ℕ) × (lookup (table_of p) (chunk_of p s) ≡ Some k) → ⊥
-            elim_copy k =
-                let both : ◌≡◌ {A = Option ℕ} None (Some k.0) = sym none ∙ ap (λ u. lookup (table_of p) (chunk_of p u)) is ∙ k.1 in
-                cc
+        differs v t none is = apart p s t (div v) (uncopied p t none) is
 
     pub shared_agrees : lookup (table_of p) (chunk_of p s) ≡ None → Agrees (on_origin (added b) s (on_view (added b) s p)) (with_side origin d w)
     shared_agrees none = record {

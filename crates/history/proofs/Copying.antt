@@ -9,7 +9,7 @@ use Rattle.device.proofs.Possible.{last_has}
 use Rattle.layout.specs.declared.chunk.ChunkSize.{ChunkSize}
 use Rattle.layout.specs.declared.exception.Exception.{Exception}
 use Rattle.layout.specs.Chunks.{sectors, per_area, is_data, in_copy}
-use Rattle.exceptions.specs.Table.{entries_at_most, has_old, lookup, room}
+use Rattle.exceptions.specs.Table.{entries_at_most, lookup, room}
 use Rattle.recovery.specs.Breaks.{more}
 use Rattle.recovery.specs.Readings.{Image, image, found}
 use Rattle.recovery.specs.Standing.{Within, Listed, Stands, Lies}
@@ -21,8 +21,8 @@ use Rattle.history.proofs.CopyWrites.{stands_data}
 use Rattle.history.proofs.Ends.{Up, Turned}
 use Rattle.history.proofs.Invariant.{Covers, Wholes, image_chosen}
 use Rattle.history.proofs.Moves.{Gains}
-use Rattle.history.proofs.Placing.{placed_more, has_chunk_old, has_chunk_more, room_placed}
-use Rattle.history.proofs.Spots.{reads_origin, reads_copy}
+use Rattle.history.proofs.Placing.{placed_more, has_chunk_more, room_placed}
+use Rattle.history.proofs.Spots.{in_table, reads_origin, reads_copy}
 use Rattle.history.proofs.Standings.{stands_lists, in_copy_chunk}
 use Rattle.history.proofs.Tables.{lookup_more_same, lookup_more_other}
 
@@ -115,12 +115,9 @@ module _ (p : Plain) (s k : ℕ) (out : diverged_at p s ≡ false) (free : room 
       placed_more (per_area (sectors p.chunk)) 0 p.diverged (chunk_of p s)
       ∙ ap (λ x. more (table_of p) (record { old = chunk_of p s; new = x })) (let z : 0 + length p.diverged ≡ length p.diverged = omega arith in ap (place_of (per_area (sectors p.chunk))) z ∙ sym can_and_place.1)
 
-  no_old : has_old (table_of p) (chunk_of p s) ≡ false
-  no_old = sym (has_chunk_old (per_area (sectors p.chunk)) 0 p.diverged (chunk_of p s)) ∙ out
-
   -- sectors of the new chunk have the new copy, and others what they had
   pub parted_here : (t : ℕ) → chunk_of p t ≡ chunk_of p s → lookup (table_of (parted p s)) (chunk_of p t) ≡ Some k
-  parted_here t is = ap₂ lookup parted_table is ∙ lookup_more_same (table_of p) (chunk_of p s) k no_old
+  parted_here t is = ap₂ lookup parted_table is ∙ lookup_more_same (table_of p) (chunk_of p s) k (sym (in_table p s) ∙ out)
 
   pub parted_else : (t : ℕ) → (chunk_of p t ≡ chunk_of p s → ⊥) → lookup (table_of (parted p s)) (chunk_of p t) ≡ lookup (table_of p) (chunk_of p t)
   parted_else t ne = ap (λ l. lookup l (chunk_of p t)) parted_table ∙ lookup_more_other (table_of p) (chunk_of p s) k (chunk_of p t) ne

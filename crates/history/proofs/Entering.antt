@@ -33,10 +33,9 @@ use Rattle.history.proofs.Fairs.{entering_fair}
 use Rattle.history.proofs.Invariant.{Chosen, Covers, Wholes, CutBoth, cut_fewer, single_is, image_chosen}
 use Rattle.history.proofs.Sides.{Live, live, passed_off}
 use Rattle.history.proofs.Splits.{At, at_store}
-use Rattle.history.proofs.Spots.{reads_origin, reads_copy}
+use Rattle.history.proofs.Spots.{in_table, reads_origin, reads_copy}
 use Rattle.history.proofs.Standings.{stands_lists, in_copy_data, single_choice}
 use Rattle.history.proofs.Tables.{listed_lookup, room_free}
-use Rattle.history.proofs.Placing.{has_chunk_old}
 use Rattle.history.proofs.Wholes.{wholes_stay}
 
 -- a good entering ends with a flush
@@ -63,7 +62,7 @@ module _ (p : Plain) (valid : p.void ≡ false) (d : Disks) (st : Up p (serving 
   low_cow = subst (λ z. z.cow < 2 ^ 32) st.agrees.sectors st.whole.cow.few
 
   no_old : has_old (table_of p) (chunk_of p s) ≡ false
-  no_old = sym (has_chunk_old (per_area (sectors p.chunk)) 0 p.diverged (chunk_of p s)) ∙ out
+  no_old = sym (in_table p s) ∙ out
 
   on_origin : chunk_of p s < p.size.origin / sectors p.chunk
   on_origin = in_whole_chunk p.chunk p.size.origin s (eqb-true _ _ (and_parts (eqb (p.size.origin % sectors p.chunk) 0) _ stand.listed.shape).0) here

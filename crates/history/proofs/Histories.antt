@@ -1,13 +1,13 @@
 -- What is true along every history, by induction over it.
-use Rattle.std.proofs.Common.{◌≡◌, ℕ, ◌<◌, Bool, true, false, ◌&&◌, T, List, [], ◌∷◌, Some, None, sym, refl, ap, ◌∙◌, subst, inl, inr, ⊎_elim, arith}
+use Rattle.std.proofs.Common.{◌≡◌, ℕ, ◌<◌, Bool, true, false, ◌&&◌, T, List, [], ◌∷◌, Some, None, sym, refl, ap, ◌∙◌, subst, inl, inr, ⊎_elim}
 use Rattle.std.specs.List.{ContainsAt as Has}
-use Rattle.std.proofs.ByRecursion.{all-has}
+use Rattle.std.proofs.ByRecursion.{all-has, has_push}
 use Rattle.std.proofs.lemmas.Bool.{cases_Bool, both_ways, and_parts, and_right}
 use Rattle.device.specs.Disk.{Bytes, possibilities}
 use Rattle.device.specs.Plans.{Disks}
 use Rattle.recovery.specs.Readings.{image}
 use Rattle.history.specs.Steps.{ground}
-use Rattle.history.specs.History.{Situation, Call, ask_status, ask_merge, read_origin, read_view, write_origin, write_snapshot, write_merging, flush_all, begin_merge, step_merge, leave_merge, reopen, Answer, Happens, refusal, PowerCut, Rejoined, End, completed, under_way, not_done, ending, History, begun, next_call, cut, rejoin}
+use Rattle.history.specs.History.{Situation, Call, ask_status, begin_merge, leave_merge, Answer, Happens, refusal, PowerCut, Rejoined, End, completed, under_way, not_done, ending, History, begun, next_call, cut, rejoin}
 use Rattle.history.specs.Machine.{Plain, Machine, only, diverged_at, performed, next, fresh, broken_off, cut_short, Cuts, Follows, Agrees, Simulates}
 use Rattle.history.specs.Promise.{shown, shown_by, apart, kind, is_flush, completes, begins, Last, Candidate, Owed, found_full, FoundFull, RefusedInvalid}
 use Rattle.history.proofs.Invariant.{On, Inv, single_is, Shares}
@@ -32,9 +32,6 @@ pub record Kept {start w : Situation} (h : History start w) (p : Plain) (cames :
   pub stays : (came : Plain) → Has cames came → p.void ≡ true → came.void ≡ true
   pub owed : p.void ≡ false → (s : ℕ) → s < p.size.origin → Owed h s (p.view s).latest
   pub invalid : RefusedInvalid h → p.void ≡ true
-
-one_has : {X : Type 0} (x : X) → Has (x ∷ []) x
-one_has x = (0, omega arith, λ d. refl)
 
 -- with nothing under way
 kept_one : {start w : Situation} {h : History start w} {p : Plain} → Says h p → (p.void ≡ false → (s : ℕ) → s < p.size.origin → Owed h s (p.view s).latest) → (RefusedInvalid h → p.void ≡ true) → Kept h p (p ∷ [])
@@ -114,7 +111,7 @@ while_idle idle (inl on) = on
 while_idle idle (inr off) = cc
 
 pub idle_has : {w : Situation} (m : Machine) → On m w → Has (cut_short m.plain m.pending) m.plain
-idle_has m on = subst (λ o. Has (cut_short m.plain o) m.plain) (sym on.idle) (one_has m.plain)
+idle_has m on = subst (λ o. Has (cut_short m.plain o) m.plain) (sym on.idle) (has_push [] m.plain)
 
 -- a still call leaves all
 still_same : (c : Call) → still c ≡ true → (kind c ≡ apart) × ((p : Plain) → performed p c ≡ p)

@@ -6,7 +6,7 @@ use Rattle.std.proofs.lemmas.Bool.{cases_eq, both_ways, eq-eqb, ne_eqb, eqb-true
 use Rattle.device.specs.Disk.{Bytes, Cell, possibilities}
 use Rattle.device.proofs.Possible.{last_has}
 use Rattle.device.specs.Sectors.{only as the_only}
-use Rattle.history.specs.History.{Call, ask_status, ask_merge, read_origin, read_view, write_origin, write_snapshot, write_merging, flush_all, begin_merge, step_merge, leave_merge, reopen, End, completed}
+use Rattle.history.specs.History.{Call, write_origin, write_snapshot, write_merging, flush_all, step_merge, End, completed}
 use Rattle.history.specs.Machine.{Plain, added, perhaps, settled_cell, changed, diverged_at, can_diverge, finds_full, run_length, voided, diverge, with_diverged, on_origin, on_view, on_both, ready, merged_partly, flushed, performed, up_to, broken_off}
 use Rattle.history.specs.Promise.{Kind, writes_view, writes_origin, flushes, uses_snapshot, apart, kind, is_flush, completes, begins, Last, Perhaps}
 

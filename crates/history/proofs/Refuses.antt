@@ -6,7 +6,7 @@ use Rattle.device.proofs.Uses.{over as run_over}
 use Rattle.store.specs.Image.{Sizes}
 use Rattle.history.specs.Faults.{Fault}
 use Rattle.history.specs.Steps.{Memory, Mode, plain, merging, Ground, is_closed, test, first, Outcome, guarded}
-use Rattle.history.specs.History.{Call, ask_status, ask_merge, read_origin, read_view, write_origin, write_snapshot, write_merging, flush_all, begin_merge, step_merge, leave_merge, reopen, Reply, Result, resulted, as_call, refusal}
+use Rattle.history.specs.History.{Call, flush_all, Reply, Result, resulted, as_call, refusal}
 use Rattle.history.proofs.Splits.{called_parts}
 
 -- A DEVICE IS GONE

@@ -15,9 +15,6 @@ use Rattle.history.proofs.Placing.{has_chunk_lookup, room_placed}
 use Rattle.history.proofs.Refusing.{tests_of, each_passed, test_passed, refusal_tells}
 use Rattle.history.proofs.Owes.{Spoils}
 
-pub is_T : (b : Bool) → b ≡ true → T b
-is_T b e = subst T (sym e) tt
-
 pub T_is : (b : Bool) → T b → b ≡ true
 T_is true t = refl
 T_is false t = absurd t
@@ -138,7 +135,7 @@ spoils_full m w (read_origin s n) e on pass began full = absurd full
 spoils_full m w (read_view s n) e on pass began full = absurd full
 spoils_full m w (write_origin s b k) e on pass began full =
     let shut = test_passed _ _ (each_passed (ground w.disks) w.memory w.mode (write_origin s b k) pass).1.1.1.0 in
-    is_T _ (and_from _ _ began (full_place m w s on (remembers_open m (sym (ap is_closed on.memory) ∙ shut)) full))
+    subst T (sym (and_from _ _ began (full_place m w s on (remembers_open m (sym (ap is_closed on.memory) ∙ shut)) full))) tt
 spoils_full m w (write_snapshot s b k) e on pass began full = absurd full
 spoils_full m w (write_merging s b) e on pass began full = absurd full
 spoils_full m w flush_all e on pass began full = absurd full

@@ -22,6 +22,9 @@ sectors_within Four = omega arith
 sectors_within Eight = omega arith
 sectors_within Sixteen = omega arith
 
+pub sound_none : (s : Shape) → Sound s []
+sound_none s = record { few = omega arith; some = λ i h _. absurd (omega arith); whole = λ a k inside h. absurd (omega arith) }
+
 module _ (s : Shape) (m : Image) (es : List Exception) (h : Holds s m es) (ok : Sound s es) where
   -- the entries of area a from place k on, where the list ends inside the area
   ends_inside : (a n k : ℕ) → n + k ≡ per_area (width s) → per_area (width s) * a + k ≤ length es → length es < per_area (width s) * a + per_area (width s) → parsed s a (area_bytes s m a) n k (take (per_area (width s) * a + k) es) ≡ over es (length es - per_area (width s) * a)

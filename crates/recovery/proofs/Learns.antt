@@ -2,7 +2,7 @@
 use Rattle.std.proofs.Common.{◌≡◌, ℕ, zero, suc, ◌+◌, ◌-◌, ◌*◌, ◌/◌, ◌%◌, ◌<◌, ◌≤◌, true, false, not, ◌&&◌, eqb, leb, List, [], length, get_or, take, sym, refl, ap, ◌∙◌, subst, ap₂, ⊎_elim, mul-le-mul_right, mul_comm, mul-one, mul-add, arith}
 use native.Mathlib.Nat.{div-add-mod}
 use lib.Arith.{digits_div, digits_mod}
-use Rattle.std.proofs.lemmas.List.{get_or_append_left, get_or_push, take_at, take-append-le}
+use Rattle.std.proofs.lemmas.List.{get_or_append_left, get_or_push}
 use Rattle.std.proofs.lemmas.Bool.{cases_Bool, cases_lt, and_parts, or_parts, eq-eqb, eqb-false, leb-true, leb-false, cond-true, cond-false}
 use Rattle.device.specs.Disk.{good}
 use Rattle.layout.specs.declared.exception.Exception.{Exception}
@@ -18,7 +18,8 @@ use Rattle.store.specs.Steps.{shape_of}
 use Rattle.recovery.specs.Breaks.{more}
 use Rattle.recovery.specs.Holding.{Sound}
 use Rattle.recovery.specs.Readings.{Image, area_bytes, scanned}
-use Rattle.recovery.proofs.Finds.{sectors_within}
+use Rattle.recovery.proofs.Finds.{sectors_within, sound_none}
+use Rattle.recovery.proofs.Listing.{sound_push}
 use Rattle.recovery.proofs.Pictures.{length_more}
 
 module _ (s : Shape) (m : Image) where
@@ -29,7 +30,7 @@ module _ (s : Shape) (m : Image) where
 
   pub learnt_none : Learnt []
   learnt_none = record {
-    sound = record { few = omega arith; some = λ i h _. absurd (omega arith); whole = λ a k inside h. absurd (omega arith) };
+    sound = sound_none s;
     entries = λ a k inside h. absurd (omega arith);
   }
 
@@ -47,26 +48,7 @@ module _ (s : Shape) (m : Image) where
   -- one more entry
   module _ (a k : ℕ) (l : List Exception) (x : Exception) (here : nth_entry (area_bytes s m a) k ≡ x) (inside : k < per_area (width s)) (size : length l ≡ per_area (width s) * a + k) (h : Learnt l) (some : x.new ≡ 0 → ⊥) (few : length l < entries_at_most) (whole : damaged s a k l x ≡ false) where
     sound_one : Sound s (more l x)
-    sound_one = record {
-      few = let longer = length_more l x in omega arith;
-      some = λ i lt z.
-          let longer = length_more l x in
-          ⊎_elim
-          (λ low. h.sound.some i low (ap (λ y. y.new) (sym (get_or_append_left l _ nothing i low)) ∙ z))
-          (λ high. some (ap (λ y. y.new) (sym (get_or_push l x nothing i (omega (arith, high)))) ∙ z))
-          (cases_lt i (length l));
-      whole = λ a' k' inside' lt.
-          let longer = length_more l x in
-          let i = per_area (width s) * a' + k' in
-          ⊎_elim
-          (λ low. ap₂ (damaged s a' k') (take-append-le i l _ (omega (arith, low))) (get_or_append_left l _ nothing i low) ∙ h.sound.whole a' k' inside' low)
-          (λ high.
-          let is : i ≡ per_area (width s) * a + k = omega (arith, high) in
-          ap₂ (damaged s a' k') (take_at l _ i (omega (arith, high))) (get_or_push l x nothing i (omega (arith, high)))
-          ∙ ap₂ (λ b j. damaged s b j l x) (area_same a' k' a k inside' inside is) (place_same a' k' a k inside' inside is)
-          ∙ whole)
-          (cases_lt i (length l));
-    }
+    sound_one = sound_push s l x h.sound some few (λ a' k' inside' is. let at = is ∙ size in ap₂ (λ b j. damaged s b j l x) (area_same a' k' a k inside' inside at) (place_same a' k' a k inside' inside at) ∙ whole)
 
     learn_one : Learnt (more l x)
     learn_one = record {

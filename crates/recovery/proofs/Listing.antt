@@ -19,6 +19,27 @@ use Rattle.recovery.specs.Breaks.{more, EnteringListed}
 use Rattle.recovery.proofs.Finds.{sectors_within}
 use Rattle.recovery.proofs.Pictures.{length_more}
 
+-- one more exception
+pub sound_push : (s : Shape) (l : List Exception) (x : Exception) → Sound s l → (x.new ≡ 0 → ⊥) → length l < entries_at_most → ((a k : ℕ) → k < per_area (width s) → per_area (width s) * a + k ≡ length l → damaged s a k l x ≡ false) → Sound s (more l x)
+sound_push s l x ok some few whole = record {
+  few = let longer = length_more l x in omega arith;
+  some = λ i lt z.
+      let longer = length_more l x in
+      ⊎_elim
+      (λ low. ok.some i low (ap (λ y. y.new) (sym (get_or_append_left l _ nothing i low)) ∙ z))
+      (λ high. some (ap (λ y. y.new) (sym (get_or_push l x nothing i (omega (arith, high)))) ∙ z))
+      (cases_lt i (length l));
+  whole = λ a k inside lt.
+      let longer = length_more l x in
+      let i = per_area (width s) * a + k in
+      ⊎_elim
+      (λ low. ap₂ (damaged s a k) (take-append-le i l _ (omega (arith, low))) (get_or_append_left l _ nothing i low) ∙ ok.whole a k inside low)
+      (λ high.
+      let is : i ≡ length l = omega (arith, high) in
+      ap₂ (damaged s a k) (take_at l _ i (sym is)) (get_or_push l x nothing i (sym is)) ∙ whole a k inside is)
+      (cases_lt i (length l));
+}
+
 -- no new chunk above the largest is taken
 pub none_above : (es : List Exception) (p i : ℕ) → largest es < p → first_from news p i es ≡ None
 none_above [] p i h = refl
@@ -117,24 +138,7 @@ module _ (s : Shape) (es : List Exception) (old p : ℕ) (ok : Sound s es) (abse
   longer = more es (record { old = old; new = p })
 
   sound_more : length es ≤ entries_at_most → Sound s longer
-  sound_more bound = record {
-    few = let l = length_more es (record { old = old; new = p }) in omega (arith, r.few);
-    some = λ i h z.
-        let l = length_more es (record { old = old; new = p }) in
-        ⊎_elim
-        (λ lt. ok.some i lt (ap (λ y. y.new) (sym (get_or_append_left es _ nothing i lt)) ∙ z))
-        (λ ge. let low = from_two s es ok in let is : p ≡ 0 = ap (λ y. y.new) (sym (get_or_push es _ nothing i (omega (arith, ge)))) ∙ z in omega (arith, r.same))
-        (cases_lt i (length es));
-    whole = λ a k inside h.
-        let l = length_more es (record { old = old; new = p }) in
-        let i = per_area (width s) * a + k in
-        ⊎_elim
-        (λ lt. ap₂ (damaged s a k) (take-append-le i es _ (omega (arith, lt))) (get_or_append_left es _ nothing i lt) ∙ ok.whole a k inside lt)
-        (λ ge.
-        let is : i ≡ length es = omega (arith, ge) in
-        ap₂ (damaged s a k) (take_at es _ i (sym is)) (get_or_push es _ nothing i (sym is)) ∙ new_sound a k inside is)
-        (cases_lt i (length es));
-  }
+  sound_more bound = sound_push s es _ ok (λ z. let low = from_two s es ok in omega (arith, r.same)) (omega (arith, r.few)) new_sound
 
 pub entering_listed : EnteringListed
 entering_listed z size es old p low_origin low_cow l absent here is =

@@ -19,7 +19,7 @@ use Rattle.recovery.specs.Standing.{Within, Standing, Listed, Presence, Standing
 use Rattle.recovery.specs.Breaks.{AfterMaking, MakingLeaves, MakingStands}
 use Rattle.recovery.proofs.Allowed.{Writes, run_within, call_step, cut_within}
 use Rattle.recovery.proofs.Enters.{zeroing_writes, storing_writes}
-use Rattle.recovery.proofs.Finds.{sectors_within}
+use Rattle.recovery.proofs.Finds.{sectors_within, sound_none}
 use Rattle.recovery.proofs.Pictures.{pic_past}
 use Rattle.recovery.proofs.Places.{not_header}
 use Rattle.recovery.proofs.Zeros.{zeros_read, settled_single, put_here, put_elsewhere, flushed_good, written_good, stored_good, then_good}
@@ -28,7 +28,7 @@ use Rattle.recovery.proofs.Zeros.{zeros_read, settled_single, put_here, put_else
 pub listed_none : (z : Sizes) (size : ChunkSize) → well_shaped z (sectors size) ≡ true → Listed z size []
 listed_none z size shape = record {
   shape = shape;
-  sound = record { few = omega arith; some = λ i h _. absurd (omega arith); whole = λ a k inside h. absurd (omega arith) };
+  sound = sound_none (shape_of z size);
   fits = tt;
 }
 
