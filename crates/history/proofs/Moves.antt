@@ -1,12 +1,12 @@
 -- What steps at one device leave: a read, a write, a flush; a chunk read, a chunk written.
-use Rattle.std.proofs.Common.{◌≡◌, ℕ, zero, suc, ◌+◌, ◌*◌, ◌<◌, ◌≤◌, true, false, ◌⊎◌, [], ◌++◌, length, take, drop, sym, refl, ap, ◌∙◌, subst, inl, inr, arith, drop-drop}
+use Rattle.std.proofs.Common.{◌≡◌, ℕ, zero, suc, ◌+◌, ◌*◌, ◌<◌, ◌≤◌, true, false, ◌⊎◌, [], ◌++◌, length, sym, refl, ap, ◌∙◌, subst, inl, inr, arith}
 use Rattle.std.specs.List.{ContainsAt as Has}
 use Rattle.device.specs.Disk.{Bytes, Disk, Op, reads, writes, flushes, possibilities, settled, Told, good, refused, Refusal, refusal}
 use Rattle.device.specs.Plans.{Plan, done, call, Runs, one, onward, gathering, spreading}
 use Rattle.device.proofs.Uses.{Went, went_on, left_in, was_refused, went, over as run_over, count_stays, not_good}
 use Rattle.recovery.specs.Readings.{image, gathered}
 use Rattle.recovery.specs.Standing.{Within}
-use Rattle.recovery.proofs.Allowed.{Allowed, Writes, run_within, on_good}
+use Rattle.recovery.proofs.Allowed.{Allowed, Writes, run_within, spreading_writes}
 use Rattle.recovery.proofs.Gathered.{part}
 use Rattle.recovery.proofs.Zeros.{spread_elsewhere, spread_here, put_here, put_elsewhere}
 use Rattle.store.specs.Steps.{only_call}
@@ -77,16 +77,6 @@ Gains d s n bytes t b = Has (possibilities (d.cells t)) b ⊎ ((i : ℕ) × (i <
 pub data DidWrite {A : Type 0} (d : Disk) (s n : ℕ) (bytes : Bytes) (t : Told Refusal A) (e : Disk) : Type 0 where
   write_good : (a : A) → t ≡ good a → e.on ≡ true → Readable e → ((i : ℕ) → i < n → image e (s + i) ≡ part bytes i) → ((u : ℕ) → ((i : ℕ) → i < n → u ≡ s + i → ⊥) → image e u ≡ image d u) → Within (Gains d s n bytes) e → DidWrite d s n bytes t e
   write_off : (p : ℕ) → t ≡ refused (refusal 3 p) → e.on ≡ false → Within (Gains d s n bytes) e → DidWrite d s n bytes t e
-
-spreading_writes : (B : ℕ → Bytes → Type 0) (n s : ℕ) (bytes : Bytes) → ((i : ℕ) → i < n → B (s + i) (part bytes i)) → Writes B (spreading s n bytes)
-spreading_writes B zero s bytes ok = tt
-spreading_writes B (suc n) s bytes ok =
-    let here = subst (λ t. B t (take 512 bytes)) (let z : s + 0 ≡ s = omega arith in z) (ok 0 (omega arith)) in
-    let later : (i : ℕ) → i < n → B ((s + 1) + i) (part (drop 512 bytes) i) = λ i h.
-    let at : s + suc i ≡ (s + 1) + i = omega arith in
-    let next : drop (512 * suc i) bytes ≡ drop (512 * i) (drop 512 bytes) = (let z : 512 * suc i ≡ 512 + 512 * i = omega arith in ap (λ k. drop k bytes) z) ∙ sym (drop-drop (512 * i) 512 bytes) in
-    subst (λ t. B t (part (drop 512 bytes) i)) at (subst (B (s + suc i)) (ap (take 512) next) (ok (suc i) (omega arith))) in
-    (here, on_good B (λ _. spreading (s + 1) n (drop 512 bytes)) (λ _. spreading_writes B n (s + 1) (drop 512 bytes) later))
 
 -- n sectors written
 pub writes_range : {d e : Disk} {t : Told Refusal (Unit {0})} (n s : ℕ) (bytes : Bytes) → s + n ≤ d.count → length bytes ≡ 512 * n → Readable d → d.on ≡ true → Runs one (spreading s n bytes) d t e → DidWrite d s n bytes t e

@@ -1,16 +1,21 @@
 -- What every write of a plan may leave, every run of it leaves: good, refused or broken off.
-use Rattle.std.proofs.Common.{◌≡◌, ℕ, Bool, cond, eqb, ◌⊎◌, List, [], ◌∷◌, sym, subst, inl, inr, ⊎_elim}
+use Rattle.std.proofs.Common.{◌≡◌, ℕ, zero, suc, ◌+◌, ◌-◌, ◌*◌, ◌/◌, ◌<◌, Bool, cond, eqb, ◌⊎◌, List, [], ◌∷◌, take, drop, sym, ap, ◌∙◌, subst, inl, inr, ⊎_elim, arith, drop-drop}
 use Rattle.std.specs.List.{ContainsAt as Has}
 use Rattle.std.proofs.ByRecursion.{has_push_cases}
-use Rattle.std.proofs.lemmas.Bool.{eq-eqb, ne_eqb, cond-true, cond-false, cases_eq}
+use Rattle.std.proofs.lemmas.Bool.{eq-eqb, ne_eqb, cond-true, cond-false, cases_eq, cases_Bool}
 use Rattle.device.specs.Disk.{Bytes, Cell, possibilities, kept, thin, torn, Disk, Fate, Op, reads, writes, flushes, Way, passes, leaves, refuses, way, carried, Told, good, refused, Refusal, told_by, after_by, Cut}
-use Rattle.device.specs.Plans.{Plan, done, call, ended, run, Runs, one, Steps, bind, onward}
+use Rattle.device.specs.Plans.{Plan, done, call, ended, run, Runs, one, Steps, bind, onward, then, spreading}
 use Rattle.device.proofs.Possible.{kept_has, last_has}
 use Rattle.device.proofs.Ruled.{torn_tears}
 use Rattle.device.proofs.Steps.{never}
 use Rattle.device.proofs.Uses.{Went, went_on, left_in, was_refused, went}
+use Rattle.layout.specs.Chunks.{area_start}
+use Rattle.store.specs.Image.{all_zero, cleaned}
+use Rattle.store.specs.Scanning.{Ending}
+use Rattle.store.specs.Steps.{finished, flushing, cleaning}
 use Rattle.recovery.specs.Readings.{image}
 use Rattle.recovery.specs.Standing.{Within}
+use Rattle.recovery.proofs.Gathered.{part}
 
 module _ (A : ℕ → Bytes → Type 0) where
   -- a write puts what is allowed
@@ -83,6 +88,35 @@ module _ (A : ℕ → Bytes → Type 0) where
   pub then_writes : {X Y : Type 0} (p : Plan (Unit {0}) X) (g : X → Plan (Unit {0}) Y) → Writes p → ((x : X) → Writes (g x)) → Writes (bind p g)
   then_writes (done x) g ok on = on x
   then_writes (call u o k) g ok on = (ok.0, λ t. then_writes (k t) g (ok.1 t) on)
+
+  -- bytes over n sectors
+  pub spreading_writes : (n s : ℕ) (bytes : Bytes) → ((i : ℕ) → i < n → A (s + i) (part bytes i)) → Writes (spreading s n bytes)
+  spreading_writes zero s bytes ok = tt
+  spreading_writes (suc n) s bytes ok =
+      let here = subst (λ t. A t (take 512 bytes)) (let z : s + 0 ≡ s = omega arith in z) (ok 0 (omega arith)) in
+      let later : (i : ℕ) → i < n → A ((s + 1) + i) (part (drop 512 bytes) i) = λ i h.
+      let at : s + suc i ≡ (s + 1) + i = omega arith in
+      let next : drop (512 * suc i) bytes ≡ drop (512 * i) (drop 512 bytes) = (let z : 512 * suc i ≡ 512 + 512 * i = omega arith in ap (λ k. drop k bytes) z) ∙ sym (drop-drop (512 * i) 512 bytes) in
+      subst (λ t. A t (part (drop 512 bytes) i)) at (subst (A (s + suc i)) (ap (take 512) next) (ok (suc i) (omega arith))) in
+      (here, on_good (λ _. spreading (s + 1) n (drop 512 bytes)) (λ _. spreading_writes n (s + 1) (drop 512 bytes) later))
+
+  -- steps and then a flush
+  pub flushed_writes : (p : Steps) → Writes p → Writes (then p (λ _. flushing finished))
+  flushed_writes p ok = then_writes p (λ t. onward t (λ _. flushing finished)) ok after
+    where
+      after : (t : Told Refusal (Unit {0})) → Writes (onward t (λ _. flushing finished))
+      after (good u) = (tt, on_good (λ _. finished) (λ _. tt))
+      after (refused r) = tt
+
+  -- a cleaning
+  pub cleaning_writes : (c : ℕ) (x : Ending) → ((i : ℕ) → i < c - x.place / 32 → A (area_start c x.area + x.place / 32 + i) (part (drop (512 * (x.place / 32)) (cleaned x.bytes x.place)) i)) → Writes (cleaning c x)
+  cleaning_writes c x ok =
+      let zeros = all_zero (drop (16 * x.place) x.bytes) in
+      let rest = drop (512 * (x.place / 32)) (cleaned x.bytes x.place) in
+      ⊎_elim
+      (λ z. subst Writes (sym (cond-true zeros _ _ z)) tt)
+      (λ nz. subst Writes (sym (cond-false zeros _ _ nz)) (flushed_writes (spreading (area_start c x.area + x.place / 32) (c - x.place / 32) rest) (spreading_writes (c - x.place / 32) _ rest ok)))
+      (cases_Bool zeros)
 
   -- a power cut leaves what is allowed
   pub cut_within : {d after : Disk} → Within A d → Cut d after → (s : ℕ) → A s (image after s)

@@ -22,7 +22,7 @@ use Rattle.recovery.proofs.Again.{End, end_of, scanned_again}
 use Rattle.recovery.proofs.Allowed.{Writes, run_within, cut_within}
 use Rattle.recovery.proofs.Calls.{Did, same_answer, did_run}
 use Rattle.recovery.proofs.Learns.{Learnt, learnt_none, scanned_fine, area_sector_on}
-use Rattle.recovery.proofs.Legible.{gathered_small, cleaning_writes}
+use Rattle.recovery.proofs.Legible.{gathered_small, cleaning_small}
 use Rattle.recovery.proofs.Opens.{Outcome, unread as not_read, declined, ran, outcome, found_by}
 use Rattle.recovery.proofs.Sectors.{Small}
 use Rattle.recovery.proofs.Tidies.{Tidy, tidy_before, tidy_keeps, cleaning_tidies}
@@ -145,7 +145,7 @@ module _ (z : Sizes) (size : ChunkSize) (es : List Exception) (d e after : Disk)
       let k = known z size es d same p in
       let ran = opened z size x d p.head p.scan t e r in
       let small : Small x.bytes = subst Small (sym k.ends.bytes) (gathered_small (image d) (sectors size) (area_start (sectors size) x.area) [] tt (λ q l. bytes x.area q l (omega (arith, k.count)))) in
-      let legible = cut_within (LegibleAt size es) (opened_within (LegibleAt size es) z size x t d e (cleaning_writes (LegibleAt size es) (λ at b h a q l le is. h) (sectors size) x small) (sure_within (LegibleAt size es) d sure (λ at a q l le is. subst (λ t. Small (image d t)) (sym is) (bytes a q l le))) ran) cut in
+      let legible = cut_within (LegibleAt size es) (opened_within (LegibleAt size es) z size x t d e (cleaning_small (LegibleAt size es) (λ at b h a q l le is. h) (sectors size) x small) (sure_within (LegibleAt size es) d sure (λ at a q l le is. subst (λ t. Small (image d t)) (sym is) (bytes a q l le))) ran) cut in
       λ a q l le. legible _ a q l le refl
 
 pub opening_breaks : OpeningBreaks

@@ -4,8 +4,8 @@ use Rattle.std.specs.List.{AllByRecursion}
 use Rattle.std.proofs.ByRecursion.{All-take}
 use Rattle.std.proofs.lemmas.List.{take_all}
 use Rattle.std.proofs.lemmas.Bool.{cases_lt}
-use Rattle.device.specs.Disk.{Bytes, Disk, put, settled, Told, good, refused, Refusal}
-use Rattle.device.specs.Plans.{Runs, one, onward}
+use Rattle.device.specs.Disk.{Bytes, Disk, put, settled, good}
+use Rattle.device.specs.Plans.{Runs, one}
 use Rattle.device.proofs.Possible.{last_has}
 use Rattle.device.proofs.Uses.{over as run_over}
 use Rattle.layout.specs.declared.chunk.ChunkSize.{ChunkSize}
@@ -19,7 +19,7 @@ use Rattle.recovery.specs.Readings.{Image, image, area_bytes}
 use Rattle.recovery.specs.Holding.{Holds}
 use Rattle.recovery.specs.Standing.{Within, ValidHeader, Standing, Listed, Legible, Lies}
 use Rattle.recovery.specs.Breaks.{AfterDropping, DroppingBreaks, DroppingLies, DroppingStands}
-use Rattle.recovery.proofs.Allowed.{Writes, on_good, run_within, then_writes, cut_within}
+use Rattle.recovery.proofs.Allowed.{Writes, on_good, run_within, flushed_writes, cut_within}
 use Rattle.recovery.proofs.Finds.{sectors_within, finds_what_it_holds}
 use Rattle.recovery.proofs.Legible.{pic_small}
 use Rattle.recovery.proofs.Pictures.{pic_past}
@@ -53,11 +53,7 @@ module _ (z : Sizes) (size : ChunkSize) (es : List Exception) (k : ℕ) where
   unwinding_writes j (suc n) = (sector_mixed (j + n), on_good Mixed (λ _. unwinding (sectors size) (take k es) j n) (λ _. unwinding_writes j n))
 
   dropping_writes : (n : ℕ) → Writes Mixed (dropping (sectors size) (take k es) n)
-  dropping_writes n = then_writes Mixed (unwinding (sectors size) (take k es) _ _) (λ t. onward t (λ _. flushing finished)) (unwinding_writes _ _) after
-    where
-      after : (t : Told Refusal (Unit {0})) → Writes Mixed (onward t (λ _. flushing finished))
-      after (good u) = (tt, on_good Mixed (λ _. finished) (λ _. tt))
-      after (refused r) = tt
+  dropping_writes n = flushed_writes Mixed (unwinding (sectors size) (take k es) _ _) (unwinding_writes _ _)
 
   -- AFTER THE CUT
 

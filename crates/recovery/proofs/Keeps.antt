@@ -1,22 +1,21 @@
 -- Calls that write only the header and areas keep the data sectors.
-use Rattle.std.proofs.Common.{◌≡◌, ℕ, zero, suc, ◌+◌, ◌-◌, ◌*◌, ◌/◌, ◌%◌, ◌<◌, ◌≤◌, Bool, true, false, not, List, [], ◌∷◌, drop, sym, refl, ap, ◌∙◌, subst, ⊎_elim, mod-lt, mul_comm, arith}
+use Rattle.std.proofs.Common.{◌≡◌, ℕ, zero, suc, ◌+◌, ◌*◌, ◌/◌, ◌%◌, ◌<◌, Bool, true, false, not, List, [], ◌∷◌, sym, refl, ap, ◌∙◌, subst, mod-lt, mul_comm, arith}
 use lib.Arith.{digits_div, digits_mod}
 use Rattle.std.specs.List.{ContainsAt as Has}
-use Rattle.std.proofs.lemmas.Bool.{cases_Bool, and_parts, true≢false, eq-eqb, cond-true, cond-false, not_from_true}
+use Rattle.std.proofs.lemmas.Bool.{and_parts, true≢false, eq-eqb, not_from_true}
 use Rattle.device.specs.Disk.{Bytes, Disk, Fate, possibilities, Op, reads, writes, flushes, Way, passes, leaves, refuses, way, told_by, after_by, Told, good, refused, Refusal}
-use Rattle.device.specs.Plans.{Plan, done, call, run, ended, Runs, one, Steps, onward, then, spreading, zeroing}
+use Rattle.device.specs.Plans.{Plan, done, call, run, ended, Runs, one, Steps, onward, then, zeroing}
 use Rattle.device.proofs.Steps.{never}
 use Rattle.layout.specs.declared.exception.Exception.{Exception}
 use Rattle.layout.specs.Chunks.{per_area, area_chunk, area_start, area_place, is_area, is_data}
 use Rattle.layout.specs.Entries.{pic}
 use Rattle.layout.specs.Headers.{header}
 use Rattle.exceptions.specs.Table.{fills_area}
-use Rattle.store.specs.Image.{all_zero, cleaned}
 use Rattle.store.specs.Scanning.{Ending}
 use Rattle.store.specs.Steps.{finished, flushing, storing, making, spoiling, preparing, entering, unwinding, dropping, cleaning}
 use Rattle.recovery.specs.Readings.{image}
 use Rattle.recovery.specs.Data.{IsData, DataKept}
-use Rattle.recovery.proofs.Allowed.{Allowed, Writes, on_good, run_within, then_writes}
+use Rattle.recovery.proofs.Allowed.{Allowed, Writes, on_good, run_within, then_writes, cleaning_writes}
 use Rattle.recovery.proofs.Enters.{zeroing_writes, storing_writes}
 use Rattle.recovery.proofs.Gone.{leaves_off}
 use Rattle.recovery.proofs.Zeros.{put_elsewhere}
@@ -138,18 +137,7 @@ module _ (c : ℕ) (some : 0 < c) where
   pub dropping_quiet : (list : List Exception) (n : ℕ) → Quiet c (dropping c list n)
   dropping_quiet list n = then_quiet (unwinding c list _ _) (flushing finished) (unwinding_quiet list _ _) (flush_quiet finished (λ A ok. tt))
 
-  spreading_quiet : (a n q : ℕ) (b : Bytes) → q + n ≤ c → Quiet c (spreading (area_start c a + q) n b)
-  spreading_quiet a zero q b h A ok = tt
-  spreading_quiet a (suc n) q b h A ok =
-      let at : area_start c a + (q + 1) ≡ area_start c a + q + 1 = omega arith in
-      let rest = subst (λ t. Writes A (spreading t n (drop 512 b))) at (spreading_quiet a n (q + 1) (drop 512 b) (omega arith) A ok) in
-      (ok _ _ (area_no_data c a q (omega arith)), on_good A (λ _. spreading (area_start c a + q + 1) n (drop 512 b)) (λ _. rest))
-
   pub cleaning_quiet : (x : Ending) → x.place < per_area c → Quiet c (cleaning c x)
   cleaning_quiet x inside A ok =
       let q = x.place / 32 in
-      let steps = then_quiet (spreading (area_start c x.area + q) (c - q) (drop (512 * q) (cleaned x.bytes x.place))) (flushing finished) (spreading_quiet x.area (c - q) q _ (omega arith)) (flush_quiet finished (λ A ok. tt)) A ok in
-      ⊎_elim
-      (λ z. subst (Writes A) (sym (cond-true (all_zero (drop (16 * x.place) x.bytes)) _ _ z)) tt)
-      (λ nz. subst (Writes A) (sym (cond-false (all_zero (drop (16 * x.place) x.bytes)) _ _ nz)) steps)
-      (cases_Bool (all_zero (drop (16 * x.place) x.bytes)))
+      cleaning_writes A c x (λ i l. let at : area_start c x.area + q + i ≡ area_start c x.area + (q + i) = omega arith in ok _ _ (λ is. area_no_data c x.area (q + i) (omega arith) (subst (IsData c) at is)))

@@ -1,19 +1,16 @@
 -- What a store writes into its areas are bytes.
-use Rattle.std.proofs.Common.{◌≡◌, ℕ, zero, suc, ◌+◌, ◌-◌, ◌*◌, ◌/◌, ◌<◌, List, [], ◌∷◌, ◌++◌, length, take, drop, replicate, sym, subst, ⊎_elim, arith}
+use Rattle.std.proofs.Common.{◌≡◌, ℕ, zero, suc, ◌+◌, ◌-◌, ◌*◌, ◌/◌, ◌<◌, List, [], ◌∷◌, ◌++◌, length, take, drop, replicate, subst, arith}
 use Rattle.std.specs.List.{flat_map}
 use Rattle.std.proofs.ByRecursion.{All-append, All-take, All-drop}
-use Rattle.std.proofs.lemmas.Bool.{cases_Bool, cond-true, cond-false}
-use Rattle.device.specs.Disk.{Bytes, Told, good, refused, Refusal}
-use Rattle.device.specs.Plans.{onward, spreading}
+use Rattle.device.specs.Disk.{Bytes}
 use Rattle.layout.specs.declared.exception.Exception.{Exception}
-use Rattle.layout.specs.Chunks.{area_start}
 use Rattle.layout.specs.Entries.{entry, pic}
 use Rattle.layout.specs.Numbers.{le}
-use Rattle.store.specs.Image.{all_zero, cleaned}
+use Rattle.store.specs.Image.{cleaned}
 use Rattle.store.specs.Scanning.{Ending}
-use Rattle.store.specs.Steps.{finished, flushing, cleaning}
+use Rattle.store.specs.Steps.{cleaning}
 use Rattle.recovery.specs.Readings.{Image, gathered}
-use Rattle.recovery.proofs.Allowed.{Writes, on_good, then_writes}
+use Rattle.recovery.proofs.Allowed.{Writes, cleaning_writes}
 use Rattle.recovery.proofs.Sectors.{Small}
 
 joined_small : (xs ys : Bytes) → Small xs → Small ys → Small (xs ++ ys)
@@ -46,21 +43,8 @@ gathered_small m (suc n) s sofar h each =
     (λ q l. let at : s + suc q ≡ (s + 1) + q = omega arith in subst (λ t. Small (m t)) at (each (suc q) (omega arith)))
 
 -- where bytes are allowed, cleaning writes what is allowed
-module _ (A : ℕ → Bytes → Type 0) (ok : (s : ℕ) (b : Bytes) → Small b → A s b) where
-  spreading_writes : (n s : ℕ) (b : Bytes) → Small b → Writes A (spreading s n b)
-  spreading_writes zero s b h = tt
-  spreading_writes (suc n) s b h = (ok s (take 512 b) (All-take _ 512 b h), on_good A (λ _. spreading (s + 1) n (drop 512 b)) (λ _. spreading_writes n (s + 1) (drop 512 b) (All-drop _ 512 b h)))
-
-  flush_writes : (t : Told Refusal (Unit {0})) → Writes A (onward t (λ _. flushing finished))
-  flush_writes (good u) = (tt, on_good A (λ _. finished) (λ _. tt))
-  flush_writes (refused f) = tt
-
-  pub cleaning_writes : (c : ℕ) (x : Ending) → Small x.bytes → Writes A (cleaning c x)
-  cleaning_writes c x h =
-      let q = x.place / 32 in
-      let clean : Small (cleaned x.bytes x.place) = joined_small (take (16 * x.place) x.bytes) _ (All-take _ (16 * x.place) x.bytes h) (zeros_small _) in
-      let some = then_writes A (spreading (area_start c x.area + q) (c - q) (drop (512 * q) (cleaned x.bytes x.place))) _ (spreading_writes (c - q) _ _ (All-drop _ (512 * q) _ clean)) flush_writes in
-      ⊎_elim
-      (λ z. subst (Writes A) (sym (cond-true (all_zero (drop (16 * x.place) x.bytes)) _ _ z)) tt)
-      (λ nz. subst (Writes A) (sym (cond-false (all_zero (drop (16 * x.place) x.bytes)) _ _ nz)) some)
-      (cases_Bool (all_zero (drop (16 * x.place) x.bytes)))
+pub cleaning_small : (A : ℕ → Bytes → Type 0) → ((s : ℕ) (b : Bytes) → Small b → A s b) → (c : ℕ) (x : Ending) → Small x.bytes → Writes A (cleaning c x)
+cleaning_small A ok c x h =
+    let clean : Small (cleaned x.bytes x.place) = joined_small (take (16 * x.place) x.bytes) _ (All-take _ (16 * x.place) x.bytes h) (zeros_small _) in
+    let rest : Small (drop (512 * (x.place / 32)) (cleaned x.bytes x.place)) = All-drop _ _ _ clean in
+    cleaning_writes A c x (λ i l. ok _ _ (All-take _ 512 _ (All-drop _ (512 * i) _ rest)))

@@ -1,25 +1,23 @@
 -- What cleaning writes keeps the entries up to the end entry.
-use Rattle.std.proofs.Common.{◌≡◌, ℕ, zero, suc, ◌+◌, ◌-◌, ◌*◌, ◌/◌, ◌%◌, ◌<◌, ◌≤◌, ◌++◌, length, take, drop, replicate, sym, refl, ap, ◌∙◌, subst, ⊎_elim, arith, length-append, length-drop, take-take, drop-drop}
+use Rattle.std.proofs.Common.{◌≡◌, ℕ, ◌+◌, ◌-◌, ◌*◌, ◌/◌, ◌%◌, ◌<◌, ◌≤◌, ◌++◌, length, take, drop, replicate, sym, refl, ap, ◌∙◌, subst₂, arith, length-append, length-drop, take-take, drop-drop}
 use lib.ListN.{length-replicate}
 use lib.Seq.{take-append-le}
 use Rattle.std.specs.List.{between}
 use Rattle.std.proofs.lemmas.List.{length-take-le}
 use Rattle.std.proofs.lemmas.Slice.{between_is}
-use Rattle.std.proofs.lemmas.Bool.{cases_Bool, cond-true, cond-false}
-use Rattle.device.specs.Disk.{Bytes, Told, good, refused, Refusal}
-use Rattle.device.specs.Plans.{onward, spreading}
+use Rattle.device.specs.Disk.{Bytes}
 use Rattle.layout.specs.Chunks.{area_start}
 use Rattle.layout.specs.Entries.{entry_from}
 use Rattle.layout.proofs.Back.{entry_past}
 use Rattle.store.specs.declared.shape.Shape.{Shape}
-use Rattle.store.specs.Image.{all_zero, cleaned}
+use Rattle.store.specs.Image.{cleaned}
 use Rattle.store.specs.Judge.{width}
 use Rattle.store.specs.Scanning.{Ending}
-use Rattle.store.specs.Steps.{finished, flushing, cleaning}
+use Rattle.store.specs.Steps.{cleaning}
 use Rattle.recovery.specs.Readings.{Image}
-use Rattle.recovery.proofs.Allowed.{Writes, on_good, then_writes}
+use Rattle.recovery.proofs.Allowed.{Writes, cleaning_writes}
 use Rattle.recovery.proofs.Again.{Keeps, End}
-use Rattle.recovery.proofs.Gathered.{entry_by, part_entry}
+use Rattle.recovery.proofs.Gathered.{part, entry_by, part_entry}
 use Rattle.recovery.proofs.Places.{same_sector, same_area, not_header}
 use Rattle.recovery.proofs.Sheets.{length_area, entry_of_area, entry_in_area}
 
@@ -114,25 +112,12 @@ module _ (s : Shape) (m : Image) (x : Ending) where
           ap (λ e. e.new) (part_entry clean (512 * q) (16 * r) (omega arith) ∙ ap (entry_from clean) at) ∙ end_entry x.bytes x.place (omega (arith, size, ends.inside));
     }
 
-    spreads : (n q : ℕ) → q + n ≡ width s → Writes Tidy (spreading (start + q) n (drop (512 * q) clean))
-    spreads zero q sum = tt
-    spreads (suc n) q sum =
-        let at : start + (q + 1) ≡ start + q + 1 = omega arith in
-        let from : 512 * (q + 1) ≡ 512 * q + 512 = omega arith in
-        let rest = subst (λ t. Writes Tidy (spreading t n (drop (512 * (q + 1)) clean))) at (spreads n (q + 1) (omega arith)) in
-        let next = subst (λ b. Writes Tidy (spreading (start + q + 1) n b)) (ap (λ k. drop k clean) from ∙ sym (drop-drop 512 (512 * q) clean)) rest in
-        (piece_tidy q (omega arith), on_good Tidy (λ _. spreading (start + q + 1) n (drop 512 (drop (512 * q) clean))) (λ _. next))
-
     pub cleaning_tidies : Writes Tidy (cleaning (width s) x)
-    cleaning_tidies =
-        let inside = ends.inside in
-        let sectors = spreads (width s - x.place / 32) (x.place / 32) (omega arith) in
-        let some = then_writes Tidy (spreading (start + x.place / 32) (width s - x.place / 32) (drop (512 * (x.place / 32)) clean)) _ sectors flushed in
-        ⊎_elim
-        (λ e. subst (Writes Tidy) (sym (cond-true (all_zero (drop (16 * x.place) x.bytes)) _ _ e)) tt)
-        (λ e. subst (Writes Tidy) (sym (cond-false (all_zero (drop (16 * x.place) x.bytes)) _ _ e)) some)
-        (cases_Bool (all_zero (drop (16 * x.place) x.bytes)))
+    cleaning_tidies = cleaning_writes Tidy (width s) x each
       where
-        flushed : (t : Told Refusal (Unit {0})) → Writes Tidy (onward t (λ _. flushing finished))
-        flushed (good u) = (tt, on_good Tidy (λ _. finished) (λ _. tt))
-        flushed (refused f) = tt
+        each : (i : ℕ) → i < width s - x.place / 32 → Tidy (start + x.place / 32 + i) (part (drop (512 * (x.place / 32)) clean) i)
+        each i l =
+            let q = x.place / 32 in
+            let at : start + (q + i) ≡ start + q + i = omega arith in
+            let from : 512 * (q + i) ≡ 512 * q + 512 * i = omega arith in
+            subst₂ Tidy at (ap (take 512) (ap (λ k. drop k clean) from ∙ sym (drop-drop (512 * i) (512 * q) clean))) (piece_tidy (q + i) (omega arith))
