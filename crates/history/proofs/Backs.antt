@@ -20,18 +20,15 @@ use Rattle.history.specs.Faults.{Fault, fault, Moves, at_side, in_store}
 use Rattle.history.specs.Steps.{sizes, ground, serving, chunk_put, copying_back}
 use Rattle.history.specs.Machine.{Plain, has_chunk, chunk_of, place_of, placed, table_of, run_length}
 use Rattle.history.proofs.Ends.{Up}
-use Rattle.history.proofs.Fair.{Readable}
 use Rattle.history.proofs.Fairs.{chunk_on}
 use Rattle.history.proofs.Invariant.{Fewer, fewer_refl}
-use Rattle.history.proofs.Moves.{Gains}
+use Rattle.history.proofs.Moves.{Gains, Spread}
 use Rattle.history.proofs.Partly.{table_length}
 use Rattle.history.proofs.Placing.{placed_drop, has_chunk_more}
-use Rattle.history.proofs.Sides.{Live, WentOff, live, live_origin, reads_chunk, asked_then, SpreadBoth, spreads_good, spreads_off, spreads_side, off_as}
-use Rattle.history.proofs.Splits.{Then, stopped, went_on, then_parts}
+use Rattle.history.proofs.Sides.{Live, WentOff, live, live_origin, reads_chunk, asked_then, Spreads, spread_off, spread_on, spreads_then}
 use Rattle.history.proofs.Spots.{reads_copy}
 use Rattle.history.proofs.Tables.{found_append, listed_lookup, item_lookup}
 use Rattle.history.proofs.Through.{at_copy}
-use Rattle.history.proofs.Wholes.{sizes_stay}
 
 -- a sector by its chunk and its place there
 in_chunk : (c s k : ℕ) → s / c ≡ k → s ≡ k * c + s % c
@@ -105,47 +102,33 @@ module _ (p : Plain) (d : Disks) (v : p.void ≡ false) (up : Up p (serving p.ch
         (λ x. let r = reads_part s x.0 l x.1 x.2 in inr (has_chunk_more js k (chunk_of p s) ∙ or_right _ _ (eq-eqb _ _ (sym r.0)), sym (x.3 ∙ r.1)))
         (gains s b has)
 
-    copied_one : {mid : Disks} (w : Disk) → mid ≡ with_side origin m w → sizes mid ≡ sizes m → w.on ≡ true → Readable w → ((i : ℕ) → i < c → image w (k * c + i) ≡ part bytes i) → ((u : ℕ) → ((i : ℕ) → i < c → u ≡ k * c + i → ⊥) → image w u ≡ image m.origin u) → Within (Gains m.origin (k * c) c bytes) w → Copied p (js ++ (k ∷ [])) d mid
-    copied_one {mid} w left size up_on up_long here else gains = subst (Copied p (js ++ (k ∷ [])) d) (sym left) (record {
+    copied_one : (w : Disk) → w.count ≡ m.origin.count → Spread m.origin (k * c) c bytes w → Copied p (js ++ (k ∷ [])) d (with_side origin m w)
+    copied_one w size g = record {
       cow = before.cow;
-      size = subst (λ y. sizes y ≡ sizes m) left size ∙ before.size;
-      live = live_origin w before.live up_on up_long;
-      back = λ s l h. ⊎_elim (λ eq. copied s l eq) (λ ne. else s (sector_else s l ne) ∙ before.back s l (⊎_elim (λ y. y) (λ y. absurd (ne (sym (eqb-true _ _ y)))) (or_cases _ _ (sym (has_chunk_more js k (chunk_of p s)) ∙ h)))) (cases_eq (chunk_of p s) k);
-      same = λ s l h. let parts = or_parts _ _ (sym (has_chunk_more js k (chunk_of p s)) ∙ h) in else s (sector_else s l (λ eq. eqb-false _ _ parts.1 (sym eq))) ∙ before.same s l parts.0;
-      possible = gains_may w gains;
-    })
+      size = (λ i. record { origin = size i; cow = m.cow.count }) ∙ before.size;
+      live = live_origin w before.live g.on g.long;
+      back = λ s l h. ⊎_elim (λ eq. copied s l eq) (λ ne. g.else s (sector_else s l ne) ∙ before.back s l (⊎_elim (λ y. y) (λ y. absurd (ne (sym (eqb-true _ _ y)))) (or_cases _ _ (sym (has_chunk_more js k (chunk_of p s)) ∙ h)))) (cases_eq (chunk_of p s) k);
+      same = λ s l h. let parts = or_parts _ _ (sym (has_chunk_more js k (chunk_of p s)) ∙ h) in g.else s (sector_else s l (λ eq. eqb-false _ _ parts.1 (sym eq))) ∙ before.same s l parts.0;
+      possible = gains_may w g.gains;
+    }
       where
         copied : (s : ℕ) → s < p.size.origin → chunk_of p s ≡ k → image w s ≡ (p.view s).latest
         copied s l eq =
             let at = in_chunk c s k eq in
             let inside = mod-lt s some in
-            ap (image w) at ∙ here (s % c) inside ∙ (reads_part s (s % c) l inside at).1
+            ap (image w) at ∙ g.here (s % c) inside ∙ (reads_part s (s % c) l inside at).1
 
     -- one turn of the copying, and then the rest; or a device went
     turn : (more : Moves (Unit {0})) {t : Told Fault (Unit {0})} {e : Disks} → Runs both (then (at_side cow (gathering (q * c) c [])) (λ b. then (at_side origin (spreading (k * c) c b)) (λ _. more))) m t e → (WentOff t e × Fewer d.cow e.cow × May p (js ++ (k ∷ [])) e.origin) ⊎ ((mid : Disks) × Copied p (js ++ (k ∷ [])) d mid × Runs both more mid t e)
     turn more {t} {e} r =
         ⊎_elim
         (λ x. inl (x.0, subst (λ y. Fewer y e.cow) before.cow x.1.cow, λ s b l has. may_more p js (k ∷ []) m.origin before.possible s b l (x.1.origin.possible s b has)))
-        (λ z. by (then_parts (at_side origin (spreading (k * c) c bytes)) (λ _. more) z))
+        (λ z. by (spreads_then origin c (k * c) bytes more before.live on.0 (length_gathered (image m.cow) c (q * c) long) z))
         (asked_then (at_side cow (gathering (q * c) c [])) (λ b. then (at_side origin (spreading (k * c) c b)) (λ _. more)) (λ u y z. reads_chunk cow c (q * c) before.live on.1 z) r)
       where
-        Result : Type 0
-        Result = (WentOff t e × Fewer d.cow e.cow × May p (js ++ (k ∷ [])) e.origin) ⊎ ((mid : Disks) × Copied p (js ++ (k ∷ [])) d mid × Runs both more mid t e)
-
-        spreads : {u : Told Fault (Unit {0})} {y : Disks} → Runs both (at_side origin (spreading (k * c) c bytes)) m u y → SpreadBoth origin m (k * c) c bytes u y
-        spreads z = spreads_side origin c (k * c) bytes before.live on.0 (length_gathered (image m.cow) c (q * c) long) z
-
-        ended : (f : Fault) → t ≡ refused f → SpreadBoth origin m (k * c) c bytes (refused f) e → Result
-        ended f is (spreads_good w wrong left a b here else gains) = cc
-        ended f is (spreads_off w off left gains) = inl (off_as is off, subst (λ y. Fewer d.cow y.cow) (sym left) (subst (Fewer d.cow) (sym before.cow) fewer_refl), subst (λ y. May p (js ++ (k ∷ [])) y.origin) (sym left) (gains_may w gains))
-
-        goes : {mid : Disks} → sizes mid ≡ sizes m → Runs both more mid t e → SpreadBoth origin m (k * c) c bytes (good tt) mid → Result
-        goes {mid} size rest (spreads_good w is left a b here else gains) = inr (mid, copied_one w left size a b here else gains, rest)
-        goes size rest (spreads_off w off left gains) = cc
-
-        by : Then (at_side origin (spreading (k * c) c bytes)) (λ _. more) m t e → Result
-        by (stopped f z is) = ended f is (spreads z)
-        by (went_on (tt) mid z rest) = goes (sizes_stay z) rest (spreads z)
+        by : Spreads origin m (k * c) c bytes more t e → (WentOff t e × Fewer d.cow e.cow × May p (js ++ (k ∷ [])) e.origin) ⊎ ((mid : Disks) × Copied p (js ++ (k ∷ [])) d mid × Runs both more mid t e)
+        by (spread_off w size off left gains) = inl (off, subst (λ y. Fewer d.cow y.cow) (sym left) (subst (Fewer d.cow) (sym before.cow) fewer_refl), subst (λ y. May p (js ++ (k ∷ [])) y.origin) (sym left) (gains_may w gains))
+        by (spread_on w size g run rest) = inr (with_side origin m w, copied_one w size g, rest)
 
   -- an exception's copy is where it says
   abbrev Known : Exception → Type 0

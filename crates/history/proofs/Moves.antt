@@ -24,12 +24,16 @@ only_writes B o ok = (ok, λ t. ends t)
     ends (good b) = tt
     ends (refused r) = tt
 
+-- how steps on a device end: good, with answer a and G of what they leave; or the device went, and O of what is left
+pub data OnOne {A : Type 0} (G O : Disk → Type 0) (a : A) (t : Told Refusal A) (e : Disk) : Type 0 where
+  one_good : t ≡ good a → G e → OnOne G O a t e
+  one_off : (p : ℕ) → t ≡ refused (refusal 3 p) → e.on ≡ false → O e → OnOne G O a t e
+
 -- READS
 
 -- what steps that write nothing come to: the bytes that are wanted, and device n; or the device went
-pub data Asked (d : Disk) (want : Bytes) (n : Disk) (t : Told Refusal Bytes) (e : Disk) : Type 0 where
-  asked_good : t ≡ good want → e ≡ n → Asked d want n t e
-  asked_off : (p : ℕ) → t ≡ refused (refusal 3 p) → e.on ≡ false → Fewer d e → Asked d want n t e
+abbrev pub Asked : Disk → Bytes → Disk → Told Refusal Bytes → Disk → Type 0
+Asked d want n = OnOne (λ e. e ≡ n) (Fewer d) want
 
 gathering_quiet : (B : ℕ → Bytes → Type 0) (n s : ℕ) (sofar : Bytes) → Writes B (gathering s n sofar)
 gathering_quiet B zero s sofar = tt
@@ -53,8 +57,8 @@ pub reads_range : {d e : Disk} {t : Told Refusal Bytes} (n s : ℕ) → s + n �
 reads_range {d} {e} {t} n s inside long on r = by (fares (gathering_fair d.count n s [] inside) long on r)
   where
     by : Fared t e → Asked d (gathered (image d) s n []) d t e
-    by (fine b is up here) = let g = gathers_good n s [] (subst (λ x. Runs one (gathering s n []) d x e) is r) in asked_good (is ∙ ap good g.0) g.1
-    by (lost p is off) = asked_off p is off (quiet_fewer (λ B. gathering_quiet B n s []) r)
+    by (fine b is up here) = let g = gathers_good n s [] (subst (λ x. Runs one (gathering s n []) d x e) is r) in one_good (is ∙ ap good g.0) g.1
+    by (lost p is off) = one_off p is off (quiet_fewer (λ B. gathering_quiet B n s []) r)
 
 -- one sector read
 pub reads_one : {d e : Disk} {t : Told Refusal Bytes} (s : ℕ) → s < d.count → Readable d → d.on ≡ true → Runs one (only_call (reads 512 s)) d t e → Asked d (image d s) d t e
@@ -73,10 +77,17 @@ reads_one {d} {e} {t} s here long on r = reads_range 1 s (omega arith) long on (
 abbrev pub Gains : Disk → ℕ → ℕ → Bytes → ℕ → Bytes → Type 0
 Gains d s n bytes t b = Has (possibilities (d.cells t)) b ⊎ ((i : ℕ) × (i < n) × (t ≡ s + i) × (b ≡ part bytes i))
 
--- what steps that write come to: the bytes read there, all else reads as before; or the device went. Either way nothing else is gained.
-pub data DidWrite {A : Type 0} (d : Disk) (s n : ℕ) (bytes : Bytes) (t : Told Refusal A) (e : Disk) : Type 0 where
-  write_good : (a : A) → t ≡ good a → e.on ≡ true → Readable e → ((i : ℕ) → i < n → image e (s + i) ≡ part bytes i) → ((u : ℕ) → ((i : ℕ) → i < n → u ≡ s + i → ⊥) → image e u ≡ image d u) → Within (Gains d s n bytes) e → DidWrite d s n bytes t e
-  write_off : (p : ℕ) → t ≡ refused (refusal 3 p) → e.on ≡ false → Within (Gains d s n bytes) e → DidWrite d s n bytes t e
+-- n sectors from s on read as the parts, and all else as before; nothing else is gained
+pub record Spread (d : Disk) (s n : ℕ) (bytes : Bytes) (e : Disk) : Type 0 where
+  pub on : e.on ≡ true
+  pub long : Readable e
+  pub here : (i : ℕ) → i < n → image e (s + i) ≡ part bytes i
+  pub else : (u : ℕ) → ((i : ℕ) → i < n → u ≡ s + i → ⊥) → image e u ≡ image d u
+  pub gains : Within (Gains d s n bytes) e
+
+-- they are written; or the device went
+abbrev pub DidWrite : Disk → ℕ → ℕ → Bytes → Told Refusal (Unit {0}) → Disk → Type 0
+DidWrite d s n bytes = OnOne (Spread d s n bytes) (Within (Gains d s n bytes)) (tt {0})
 
 -- n sectors written
 pub writes_range : {d e : Disk} {t : Told Refusal (Unit {0})} (n s : ℕ) (bytes : Bytes) → s + n ≤ d.count → length bytes ≡ 512 * n → Readable d → d.on ≡ true → Runs one (spreading s n bytes) d t e → DidWrite d s n bytes t e
@@ -86,17 +97,23 @@ writes_range {d} {e} {t} n s bytes inside size long on r = by (fares (spreading_
     gains = run_within (Gains d s n bytes) (spreading_writes (Gains d s n bytes) n s bytes (λ i l. inr (i, l, refl, refl))) r (λ u b has. inl has)
 
     by : Fared t e → DidWrite d s n bytes t e
-    by (fine (tt) is up here) = let q = subst (λ x. Runs one (spreading s n bytes) d x e) is r in write_good tt is up here (spread_here n s bytes q) (spread_elsewhere n s bytes q) gains
-    by (lost p is off) = write_off p is off gains
+    by (fine (tt) is up here) = let q = subst (λ x. Runs one (spreading s n bytes) d x e) is r in one_good is (record { on = up; long = here; here = spread_here n s bytes q; else = spread_elsewhere n s bytes q; gains = gains })
+    by (lost p is off) = one_off p is off gains
 
 -- what sector s may hold besides what it held
 abbrev pub GainsOne : Disk → ℕ → Bytes → ℕ → Bytes → Type 0
 GainsOne d s bytes t b = Has (possibilities (d.cells t)) b ⊎ ((t ≡ s) × (bytes ≡ b))
 
--- one sector written: it reads as the bytes, all else as before; or the device went. Either way nothing else is gained.
-pub data DidPut (d : Disk) (s : ℕ) (bytes : Bytes) (t : Told Refusal Bytes) (e : Disk) : Type 0 where
-  put_good : t ≡ good [] → e.on ≡ true → image e s ≡ bytes → ((u : ℕ) → (u ≡ s → ⊥) → image e u ≡ image d u) → Within (GainsOne d s bytes) e → DidPut d s bytes t e
-  put_off : (p : ℕ) → t ≡ refused (refusal 3 p) → e.on ≡ false → Within (GainsOne d s bytes) e → DidPut d s bytes t e
+-- sector s reads as the bytes, and all else as before; nothing else is gained
+pub record PutOne (d : Disk) (s : ℕ) (bytes : Bytes) (e : Disk) : Type 0 where
+  pub on : e.on ≡ true
+  pub here : image e s ≡ bytes
+  pub else : (u : ℕ) → (u ≡ s → ⊥) → image e u ≡ image d u
+  pub gains : Within (GainsOne d s bytes) e
+
+-- it is written; or the device went
+abbrev pub DidPut : Disk → ℕ → Bytes → Told Refusal Bytes → Disk → Type 0
+DidPut d s bytes = OnOne (PutOne d s bytes) (Within (GainsOne d s bytes)) []
 
 pub writes_one : {d e : Disk} {t : Told Refusal Bytes} (s : ℕ) (bytes : Bytes) → s < d.count → length bytes ≡ 512 → Readable d → d.on ≡ true → Runs one (only_call (writes s bytes)) d t e → DidPut d s bytes t e
 writes_one {d} {e} {t} s bytes here size long on r = by (fares (asks_fair d.count (writes s bytes) (λ b. done (good b)) (size, here) (λ b _. tt)) long on r)
@@ -107,13 +124,13 @@ writes_one {d} {e} {t} s bytes here size long on r = by (fares (asks_fair d.coun
     put_is : (a : Bytes) → t ≡ good a → e.on ≡ true → Went {B = Bytes} one tt (writes s bytes) (λ b. done (good b)) d t e → DidPut d s bytes t e
     put_is a is up (went_on f w q) =
         let o = run_over q in
-        put_good o.0 up (ap (λ y. image y s) o.1 ∙ put_here d s bytes f) (λ u ne. ap (λ y. image y u) o.1 ∙ put_elsewhere d s bytes f u ne) gains
+        one_good o.0 (record { on = up; here = ap (λ y. image y s) o.1 ∙ put_here d s bytes f; else = λ u ne. ap (λ y. image y u) o.1 ∙ put_elsewhere d s bytes f u ne; gains = gains })
     put_is a is up (left_in f w x y) = not_good (sym is ∙ x)
     put_is a is up (was_refused f n p w x y) = not_good (sym is ∙ x)
 
     by : Fared t e → DidPut d s bytes t e
     by (fine a is up here) = put_is a is up (went r)
-    by (lost p is off) = put_off p is off gains
+    by (lost p is off) = one_off p is off gains
 
 -- FLUSHES
 
@@ -122,10 +139,10 @@ pub flushes_one : {d e : Disk} {t : Told Refusal Bytes} → Readable d → d.on 
 flushes_one {d} {e} {t} long on r = by (fares (asks_fair d.count flushes (λ b. done (good b)) tt (λ b _. tt)) long on r)
   where
     settles : (a : Bytes) → t ≡ good a → Went {B = Bytes} one tt flushes (λ b. done (good b)) d t e → Asked d [] (settled d) t e
-    settles a is (went_on f w q) = let o = run_over q in asked_good o.0 o.1
+    settles a is (went_on f w q) = let o = run_over q in one_good o.0 o.1
     settles a is (left_in f w x y) = not_good (sym is ∙ x)
     settles a is (was_refused f n p w x y) = not_good (sym is ∙ x)
 
     by : Fared t e → Asked d [] (settled d) t e
     by (fine a is up here) = settles a is (went r)
-    by (lost p is off) = asked_off p is off (quiet_fewer (λ B. only_writes B flushes tt) r)
+    by (lost p is off) = one_off p is off (quiet_fewer (λ B. only_writes B flushes tt) r)

@@ -1,7 +1,7 @@
 -- A chunk without a copy is copied and entered, before a write to it.
 use Rattle.std.proofs.Common.{◌≡◌, ℕ, ◌+◌, ◌*◌, ◌/◌, ◌%◌, ◌<◌, ◌≤◌, true, false, eqb, List, [], length, Some, sym, ap, ◌∙◌, subst, inl, ⊎_elim, mod-lt, div-add-mod', arith}
 use Rattle.std.proofs.lemmas.Bool.{and_parts, eqb-true}
-use Rattle.device.specs.Disk.{Bytes, Disk, Told, good, refused}
+use Rattle.device.specs.Disk.{Bytes, Disk, Told}
 use Rattle.device.specs.Plans.{Runs, both, origin, cow, Disks, with_side, then, gathering, spreading}
 use Rattle.layout.specs.declared.exception.Exception.{Exception}
 use Rattle.layout.specs.Chunks.{sectors, is_data, in_copy}
@@ -17,13 +17,12 @@ use Rattle.history.proofs.Copying.{in_whole_chunk, free_covers, free_up, Parts}
 use Rattle.history.proofs.Ends.{Up, turned_off}
 use Rattle.history.proofs.Entering.{entered_both}
 use Rattle.history.proofs.Fairs.{chunk_on}
-use Rattle.history.proofs.Invariant.{Covers, Wholes, covers_fewer, cut_fewer}
+use Rattle.history.proofs.Invariant.{Covers, covers_fewer, cut_fewer}
 use Rattle.history.proofs.Reading.{alive}
-use Rattle.history.proofs.Sides.{WentOff, reads_chunk, asked_then, SpreadBoth, spreads_good, spreads_off, spreads_side, off_as}
-use Rattle.history.proofs.Splits.{Then, then_parts}
+use Rattle.history.proofs.Sides.{WentOff, reads_chunk, asked_then, Spreads, spread_off, spread_on, spreads_then}
 use Rattle.history.proofs.Tables.{room_free}
 use Rattle.history.proofs.Through.{at_data}
-use Rattle.history.proofs.Wholes.{wholes_stay, sizes_stay}
+use Rattle.history.proofs.Wholes.{wholes_stay}
 
 module _ (p : Plain) (valid : p.void ≡ false) (d : Disks) (up : Up p (serving p.chunk (table_of p)) d) (s : ℕ) (here : s < p.size.origin) (out : diverged_at p s ≡ false) (k : ℕ) (free : room entries_at_most (sectors p.chunk) (p.size.cow / sectors p.chunk) (table_of p) ≡ Some k) where
   -- nothing of the machine's disks has changed
@@ -73,30 +72,14 @@ module _ (p : Plain) (valid : p.void ≡ false) (d : Disks) (up : Up p (serving 
   with_sizes : {e e' : Disks} {t : Told Fault (List Exception)} → Runs both entering_plan e t e' → Runs both (in_store (enter (shape_of p.size p.chunk) (table_of p) (chunk_of p s))) e t e'
   with_sizes {e} {e'} {t} r = subst (λ z. Runs both (in_store (enter (shape_of z p.chunk) (table_of p) (chunk_of p s))) e t e') up.agrees.sectors r
 
-  same_cow : {e : Disks} (w : Disk) → e ≡ with_side cow d w → sizes e ≡ sizes d → w.count ≡ d.cow.count
-  same_cow w left is = ap (λ y. y.cow.count) (sym left) ∙ ap (λ z. z.cow) is
-
   writing_parts : {t : Told Fault (List Exception)} {e : Disks} → Runs both (writing_plan bytes) d t e → Parts p s t e
-  writing_parts {t} {e} r = by (then_parts (at_side cow (spreading (k * sectors p.chunk) (sectors p.chunk) bytes)) (λ _. entering_plan) r)
+  writing_parts {t} {e} r = by (spreads_then cow (sectors p.chunk) (k * sectors p.chunk) bytes entering_plan (alive p d _ up) place_here size_long r)
     where
-      spread : {u : Told Fault (Unit {0})} {y : Disks} → Runs both (at_side cow (spreading (k * sectors p.chunk) (sectors p.chunk) bytes)) d u y → SpreadBoth cow d (k * sectors p.chunk) (sectors p.chunk) bytes u y
-      spread run = spreads_side cow (sectors p.chunk) (k * sectors p.chunk) bytes (alive p d _ up) place_here size_long run
-
-      off_by : (f : Fault) → Runs both (at_side cow (spreading (k * sectors p.chunk) (sectors p.chunk) bytes)) d (refused f) e → t ≡ refused f → SpreadBoth cow d (k * sectors p.chunk) (sectors p.chunk) bytes (refused f) e → Parts p s t e
-      off_by f run is (spreads_good w told left on lng here' else gains) = cc
-      off_by f run is (spreads_off w off left gains) = still (off_as is off) (subst (Covers p) (sym left) (free_covers p valid d _ up k place.0 place.2 bytes w (same_cow w left (sizes_stay run)) gains))
-
-      good_by : (mid : Disks) → Runs both (at_side cow (spreading (k * sectors p.chunk) (sectors p.chunk) bytes)) d (good tt) mid → Runs both entering_plan mid t e → SpreadBoth cow d (k * sectors p.chunk) (sectors p.chunk) bytes (good tt) mid → Parts p s t e
-      good_by mid run rest (spreads_good w told left on lng there else gains) =
-          let same = same_cow w left (sizes_stay run) in
-          let up₁ = free_up p valid d _ up k place.0 place.2 bytes w same gains else on (and_parts d.origin.on d.cow.on up.agrees.on).0 (subst Wholes left (wholes_stay run up.whole)) in
-          let fill = filled w same there in
-          entered_both p valid (with_side cow d w) up₁ s here out k free fill (with_sizes (subst (λ y. Runs both entering_plan y t e) left rest))
-      good_by mid run rest (spreads_off w off left gains) = cc
-
-      by : Then (at_side cow (spreading (k * sectors p.chunk) (sectors p.chunk) bytes)) (λ _. entering_plan) d t e → Parts p s t e
-      by (Then.stopped f run is) = off_by f run is (spread run)
-      by (Then.went_on tt mid run rest) = good_by mid run rest (spread run)
+      by : Spreads cow d (k * sectors p.chunk) (sectors p.chunk) bytes entering_plan t e → Parts p s t e
+      by (spread_off w same off left gains) = still off (subst (Covers p) (sym left) (free_covers p valid d _ up k place.0 place.2 bytes w same gains))
+      by (spread_on w same g run rest) =
+          let up₁ = free_up p valid d _ up k place.0 place.2 bytes w same g.gains g.else g.on (and_parts d.origin.on d.cow.on up.agrees.on).0 (wholes_stay run up.whole) in
+          entered_both p valid (with_side cow d w) up₁ s here out k free (filled w same g.here) (with_sizes rest)
 
   -- through the store the place is written as it stands
   copying_is : copying (ground d) p.chunk (table_of p) (chunk_of p s) k ≡ then (at_side origin (gathering (chunk_of p s * sectors p.chunk) (sectors p.chunk) [])) writing_plan

@@ -5,16 +5,16 @@ use Rattle.std.proofs.lemmas.Bool.{and_parts, and_left, and_right}
 use Rattle.device.specs.Disk.{Bytes, Disk, reads, writes, flushes, possibilities, settled, Told, good, refused, Refusal, refusal}
 use Rattle.device.specs.Plans.{Plan, Runs, both, Side, origin, cow, Disks, pair, then, side, with_side, with_same, raised, gathering, spreading}
 use Rattle.device.proofs.Possible.{last_has}
+use Rattle.device.proofs.Uses.{count_stays}
 use Rattle.device.specs.Sectors.{only}
 use Rattle.recovery.specs.Readings.{image, gathered}
 use Rattle.recovery.specs.Standing.{Within}
-use Rattle.recovery.proofs.Gathered.{part}
 use Rattle.history.specs.Faults.{Fault, Moves, passed_up, at_side, read, write, flush}
 use Rattle.store.specs.Steps.{only_call}
 use Rattle.history.specs.Steps.{both_on}
 use Rattle.history.proofs.Invariant.{Wholes, Fewer, fewer_refl, fewer_trans}
 use Rattle.history.proofs.Fair.{Readable}
-use Rattle.history.proofs.Moves.{Asked, asked_good, asked_off, Gains, GainsOne, reads_one, reads_range, DidWrite, write_good, write_off, writes_range, DidPut, put_good, put_off, writes_one, flushes_one}
+use Rattle.history.proofs.Moves.{OnOne, one_good, one_off, Asked, Gains, GainsOne, Spread, PutOne, reads_one, reads_range, writes_range, writes_one, flushes_one}
 use Rattle.history.proofs.Splits.{At, at_one, Then, stopped, went_on, then_parts}
 
 -- both devices are on, and whole
@@ -93,8 +93,8 @@ pub data AskedBoth (d : Disks) (want : Bytes) (n : Disks) (t : Told Fault Bytes)
   both_off : WentOff t e → FewerBoth d e → AskedBoth d want n t e
 
 from_one : (x : Side) {d n e : Disks} {t : Told Fault Bytes} {want : Bytes} {m : Disk} {p : Plan (Unit {0}) (Told Refusal Bytes)} → with_side x d m ≡ n → (a : At Refusal Bytes x p (passed_up x) d t e) → Asked (side x d) want m a.answer a.disk → AskedBoth d want n t e
-from_one x {d} there a (asked_good is same) = both_good (a.told ∙ ap (raised (passed_up x)) is) (a.left ∙ ap (with_side x d) same ∙ there)
-from_one x {d} there a (asked_off q is off few) = both_off (went_off x d a.disk q a.told a.left is off) (subst (FewerBoth d) (sym a.left) (fewer_side x d a.disk few))
+from_one x {d} there a (one_good is same) = both_good (a.told ∙ ap (raised (passed_up x)) is) (a.left ∙ ap (with_side x d) same ∙ there)
+from_one x {d} there a (one_off q is off few) = both_off (went_off x d a.disk q a.told a.left is off) (subst (FewerBoth d) (sym a.left) (fewer_side x d a.disk few))
 
 pub reads_side : (x : Side) (s : ℕ) {d e : Disks} {t : Told Fault Bytes} → Live d → s < (side x d).count → Runs both (read x s) d t e → AskedBoth d (image (side x d) s) d t e
 reads_side x s {d} l here r = let a = at_one x (only_call (reads 512 s)) r in from_one x (with_same x d) a (reads_one s here (l.long x) (l.on x) a.ran)
@@ -141,32 +141,45 @@ flushes_both {d} {e} {t} l r =
 
 -- WRITES
 
+-- how steps at one device end: good, with answer a and G of what they leave there; or a device went, and O of what is left
+pub data OnSide {A : Type 0} (x : Side) (d : Disks) (G O : Disk → Type 0) (a : A) (t : Told Fault A) (e : Disks) : Type 0 where
+  side_good : (w : Disk) → w.count ≡ (side x d).count → t ≡ good a → e ≡ with_side x d w → G w → OnSide x d G O a t e
+  side_off : (w : Disk) → w.count ≡ (side x d).count → WentOff t e → e ≡ with_side x d w → O w → OnSide x d G O a t e
+
+on_side : {A : Type 0} (x : Side) {d e : Disks} {t : Told Fault A} {p : Plan (Unit {0}) (Told Refusal A)} {G O : Disk → Type 0} {a : A} → (s : At Refusal A x p (passed_up x) d t e) → OnOne G O a s.answer s.disk → OnSide x d G O a t e
+on_side x s (one_good is g) = side_good s.disk (count_stays s.ran) (s.told ∙ ap (raised (passed_up x)) is) s.left g
+on_side x {d} s (one_off q is off o) = side_off s.disk (count_stays s.ran) (went_off x d s.disk q s.told s.left is off) s.left o
+
 -- one sector of one device written, or a device went
-pub data PutBoth (x : Side) (d : Disks) (s : ℕ) (bytes : Bytes) (t : Told Fault Bytes) (e : Disks) : Type 0 where
-  puts_good : (w : Disk) → t ≡ good [] → e ≡ with_side x d w → w.on ≡ true → image w s ≡ bytes → ((u : ℕ) → (u ≡ s → ⊥) → image w u ≡ image (side x d) u) → Within (GainsOne (side x d) s bytes) w → PutBoth x d s bytes t e
-  puts_off : (w : Disk) → WentOff t e → e ≡ with_side x d w → Within (GainsOne (side x d) s bytes) w → PutBoth x d s bytes t e
+abbrev pub PutBoth : Side → Disks → ℕ → Bytes → Told Fault Bytes → Disks → Type 0
+PutBoth x d s bytes = OnSide x d (PutOne (side x d) s bytes) (Within (GainsOne (side x d) s bytes)) []
 
 pub puts_side : (x : Side) (s : ℕ) (bytes : Bytes) {d e : Disks} {t : Told Fault Bytes} → Live d → s < (side x d).count → length bytes ≡ 512 → Runs both (write x s bytes) d t e → PutBoth x d s bytes t e
-puts_side x s bytes {d} {e} {t} l here size r = by (writes_one s bytes here size (l.long x) (l.on x) a.ran)
-  where
-    a : At Refusal Bytes x (only_call (writes s bytes)) (passed_up x) d t e
-    a = at_one x (only_call (writes s bytes)) r
-
-    by : DidPut (side x d) s bytes a.answer a.disk → PutBoth x d s bytes t e
-    by (put_good is on here else gains) = puts_good a.disk (a.told ∙ ap (raised (passed_up x)) is) a.left on here else gains
-    by (put_off q is off gains) = puts_off a.disk (went_off x d a.disk q a.told a.left is off) a.left gains
+puts_side x s bytes l here size r = let a = at_one x (only_call (writes s bytes)) r in on_side x a (writes_one s bytes here size (l.long x) (l.on x) a.ran)
 
 -- n sectors of one device written, or a device went
-pub data SpreadBoth (x : Side) (d : Disks) (s n : ℕ) (bytes : Bytes) (t : Told Fault (Unit {0})) (e : Disks) : Type 0 where
-  spreads_good : (w : Disk) → t ≡ good tt → e ≡ with_side x d w → w.on ≡ true → Readable w → ((i : ℕ) → i < n → image w (s + i) ≡ part bytes i) → ((u : ℕ) → ((i : ℕ) → i < n → u ≡ s + i → ⊥) → image w u ≡ image (side x d) u) → Within (Gains (side x d) s n bytes) w → SpreadBoth x d s n bytes t e
-  spreads_off : (w : Disk) → WentOff t e → e ≡ with_side x d w → Within (Gains (side x d) s n bytes) w → SpreadBoth x d s n bytes t e
+abbrev pub SpreadBoth : Side → Disks → ℕ → ℕ → Bytes → Told Fault (Unit {0}) → Disks → Type 0
+SpreadBoth x d s n bytes = OnSide x d (Spread (side x d) s n bytes) (Within (Gains (side x d) s n bytes)) (tt {0})
 
 pub spreads_side : (x : Side) (n s : ℕ) (bytes : Bytes) {d e : Disks} {t : Told Fault (Unit {0})} → Live d → s + n ≤ (side x d).count → length bytes ≡ 512 * n → Runs both (at_side x (spreading s n bytes)) d t e → SpreadBoth x d s n bytes t e
-spreads_side x n s bytes {d} {e} {t} l inside size r = by (writes_range n s bytes inside size (l.long x) (l.on x) a.ran)
-  where
-    a : At Refusal (Unit {0}) x (spreading s n bytes) (passed_up x) d t e
-    a = at_one x (spreading s n bytes) r
+spreads_side x n s bytes l inside size r = let a = at_one x (spreading s n bytes) r in on_side x a (writes_range n s bytes inside size (l.long x) (l.on x) a.ran)
 
-    by : DidWrite (side x d) s n bytes a.answer a.disk → SpreadBoth x d s n bytes t e
-    by (write_good u is on long here else gains) = spreads_good a.disk (a.told ∙ ap (raised (passed_up x)) is) a.left on long here else gains
-    by (write_off q is off gains) = spreads_off a.disk (went_off x d a.disk q a.told a.left is off) a.left gains
+-- such a spreading and then the rest: a device went in it, or it is done and the rest ran
+pub data Spreads {B : Type 0} (x : Side) (d : Disks) (s n : ℕ) (bytes : Bytes) (more : Moves B) (t : Told Fault B) (e : Disks) : Type 0 where
+  spread_off : (w : Disk) → w.count ≡ (side x d).count → WentOff t e → e ≡ with_side x d w → Within (Gains (side x d) s n bytes) w → Spreads x d s n bytes more t e
+  spread_on : (w : Disk) → w.count ≡ (side x d).count → Spread (side x d) s n bytes w → Runs both (at_side x (spreading s n bytes)) d (good tt) (with_side x d w) → Runs both more (with_side x d w) t e → Spreads x d s n bytes more t e
+
+pub spreads_then : {B : Type 0} (x : Side) (n s : ℕ) (bytes : Bytes) (more : Moves B) {d e : Disks} {t : Told Fault B} → Live d → s + n ≤ (side x d).count → length bytes ≡ 512 * n → Runs both (then (at_side x (spreading s n bytes)) (λ _. more)) d t e → Spreads x d s n bytes more t e
+spreads_then {B} x n s bytes more {d} {e} {t} l inside size r = by (then_parts (at_side x (spreading s n bytes)) (λ _. more) r)
+  where
+    ended : (f : Fault) → t ≡ refused f → SpreadBoth x d s n bytes (refused f) e → Spreads x d s n bytes more t e
+    ended f is (side_good w same wrong left g) = cc
+    ended f is (side_off w same off left gains) = spread_off w same (off_as is off) left gains
+
+    goes : (mid : Disks) → Runs both (at_side x (spreading s n bytes)) d (good tt) mid → Runs both more mid t e → SpreadBoth x d s n bytes (good tt) mid → Spreads x d s n bytes more t e
+    goes mid q rest (side_good w same is left g) = spread_on w same g (subst (λ y. Runs both (at_side x (spreading s n bytes)) d (good tt) y) left q) (subst (λ y. Runs both more y t e) left rest)
+    goes mid q rest (side_off w same off left gains) = cc
+
+    by : Then (at_side x (spreading s n bytes)) (λ _. more) d t e → Spreads x d s n bytes more t e
+    by (stopped f q is) = ended f is (spreads_side x n s bytes l inside size q)
+    by (went_on (tt) mid q rest) = goes mid q rest (spreads_side x n s bytes l inside size q)
