@@ -11,10 +11,10 @@ use Rattle.std.proofs.lemmas.Iterator.{YieldsList, YieldsList-from_slice, Yields
 use Rattle.std.proofs.lemmas.Iterator.Consumers.{YieldsList-from_enumerate}
 use Rattle.std.proofs.lemmas.List.FromFn.{length-enumerate_from, get_or-enumerate_from}
 use Rattle.std.specs.Simd.{first_chunks}
-use Rattle.std.proofs.lemmas.List.{take_at, drop_at, drop_all, take_all, take_more, flat_map_more, length-take-le, length-append, drop-replicate, take-take, drop-take, drop-drop}
+use Rattle.std.proofs.lemmas.List.{take_at, drop_at, drop_all, take_all, take_more, flat_map_more, length-append, drop-replicate, take-take, drop-take, drop-drop}
 use Rattle.layout.specs.declared.exception.Exception.{Exception}
 use Rattle.layout.specs.Entries.{entry, entry_from, nth_entry, padded}
-use Rattle.layout.proofs.Made.{length_entries}
+use Rattle.layout.proofs.Made.{length_entries-take}
 use borrow.Rule.Slice.PartMut.{put_mid}
 use Rattle.layout.specs.Numbers.{value}
 
@@ -74,7 +74,7 @@ padded_more xs ys a h l =
 pub entries_more : (part : List Exception) (n m k : ℕ) (e : Exception) {was ys : List ℕ} → (n < length (enumerate_from 0 part)) × ((k, e) ≡ get_or (enumerate_from 0 part) n (k, e)) → m ≡ n + 1 → was ≡ padded (flat_map entry (take n part)) → ys ≡ entry e → put_mid (16 * k) (16 * k + 16 - 16 * k) was ys ≡ padded (flat_map entry (take m part))
 entries_more part n m k e turn more before now =
     let item = item_is part n k e turn in
-    let long : length (flat_map entry (take n part)) ≡ 16 * k = omega (arith, length_entries (take n part), length-take-le n part (omega arith)) in
+    let long : length (flat_map entry (take n part)) ≡ 16 * k = omega (arith, length_entries-take part n (omega arith)) in
     let list : take n part ++ e ∷ [] ≡ take m part = ap (λ x. take n part ++ x ∷ []) item.2 ∙ sym (take_more part n e item.0) ∙ ap (λ i. take i part) (sym more) in
     (λ i. put_mid (16 * k) (16 * k + 16 - 16 * k) (before i) (now i))
     ∙ padded_more (flat_map entry (take n part)) (entry e) (16 * k) long refl

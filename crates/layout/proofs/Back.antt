@@ -2,7 +2,7 @@
 use Rattle.std.proofs.Common.{◌≡◌, ℕ, zero, suc, ◌+◌, ◌-◌, ◌*◌, ◌/◌, ◌%◌, ◌^◌, ◌<◌, ◌≤◌, true, false, List, [], ◌∷◌, ◌++◌, length, get_or, take, drop, replicate, sym, refl, ap, ◌∙◌, ap₂, append_assoc, pow-suc, arith, take-append-drop}
 use lib.Seq.{drop-append-add}
 use Rattle.std.specs.List.{between, flat_map, AllByRecursion}
-use Rattle.std.proofs.lemmas.List.{drop_at, drop_more, length-take, length-take-le, length-append, length-replicate, drop-replicate, take-replicate, replicate-append-replicate, get_or-take, get_or-drop}
+use Rattle.std.proofs.lemmas.List.{drop_at, drop_more, length-take, length-append, length-replicate, drop-replicate, take-replicate, replicate-append-replicate, get_or-take, get_or-drop}
 use Rattle.std.proofs.lemmas.List.Concat.{flat_map-append}
 use Rattle.std.proofs.ByRecursion.{All-get_or, All-take, All-drop}
 use Rattle.std.proofs.lemmas.Nat.{div_below}
@@ -11,7 +11,7 @@ use Rattle.layout.specs.Entries.{entry, entry_from, pic, Fits, ReadBack}
 use Rattle.layout.specs.Numbers.{le, value}
 use Rattle.layout.specs.declared.chunk.ChunkSize.TheVariants.{One, Two, Four, Eight, Sixteen}
 use Rattle.layout.specs.Headers.{HeaderBack}
-use Rattle.layout.proofs.Made.{length_entries}
+use Rattle.layout.proofs.Made.{length_entries, length_entries-take}
 
 value_le : (w n : ℕ) → n < 256 ^ w → value (le w n) ≡ n
 value_le zero n h = omega arith
@@ -52,9 +52,6 @@ split_at part k d zs h =
     let all : part ≡ take k part ++ (get_or part k d ∷ drop (k + 1) part) = sym (ap (λ l. take k part ++ l) (sym (drop_more part k d h)) ∙ take-append-drop k part) in
     ap (λ l. l ++ zs) (ap (flat_map entry) all ∙ flat_map-append entry (take k part) (get_or part k d ∷ drop (k + 1) part)) ∙ append_assoc (flat_map entry (take k part)) _ zs ∙ ap (λ l. flat_map entry (take k part) ++ l) (append_assoc (entry (get_or part k d)) (flat_map entry (drop (k + 1) part)) zs)
 
-long : (part : List Exception) (k : ℕ) → k ≤ length part → length (flat_map entry (take k part)) ≡ 16 * k
-long part k h = length_entries (take k part) ∙ ap (λ n. 16 * n) (length-take-le k part h)
-
 pub read_back : ReadBack
 read_back = record { number = value_le; bytes = le_value; here = here; past = past }
   where
@@ -63,7 +60,7 @@ read_back = record { number = value_le; bytes = le_value; here = here; past = pa
         let part = take 32 (drop (32 * j) es) in
         let few : k < 32 = omega (arith, length-take 32 (drop (32 * j) es)) in
         let is : get_or part k d ≡ get_or es (32 * j + k) d = get_or-take 32 (drop (32 * j) es) k d few ∙ get_or-drop (32 * j) es k d in
-        ap (λ l. entry_from l (16 * k)) (split_at part k d (replicate (512 - length (flat_map entry part)) 0) h) ∙ entry_here (flat_map entry (take k part)) _ (get_or part k d) (16 * k) (long part k (omega arith)) (All-get_or Fits part k d h (All-take Fits 32 (drop (32 * j) es) (All-drop Fits (32 * j) es fit))) ∙ is
+        ap (λ l. entry_from l (16 * k)) (split_at part k d (replicate (512 - length (flat_map entry part)) 0) h) ∙ entry_here (flat_map entry (take k part)) _ (get_or part k d) (16 * k) (length_entries-take part k (omega arith)) (All-get_or Fits part k d h (All-take Fits 32 (drop (32 * j) es) (All-drop Fits (32 * j) es fit))) ∙ is
 
     past : (es : List Exception) (j k : ℕ) → length (take 32 (drop (32 * j) es)) ≤ k → k < 32 → entry_from (pic es j) (16 * k) ≡ record { old = 0; new = 0 }
     past es j k h few =

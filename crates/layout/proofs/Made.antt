@@ -1,5 +1,6 @@
 -- Bytes written part by part.
-use Rattle.std.proofs.Common.{◌≡◌, ℕ, ◌*◌, Bool, List, [], ◌∷◌, ◌++◌, length, replicate, refl, arith}
+use Rattle.std.proofs.Common.{◌≡◌, ℕ, ◌*◌, ◌≤◌, Bool, List, [], ◌∷◌, ◌++◌, length, take, replicate, refl, ap, ◌∙◌, arith}
+use Rattle.std.proofs.lemmas.List.{length-take-le}
 use borrow.Rule.Slice.PartMut.{put_mid}
 use Rattle.std.specs.List.{flat_map}
 use Rattle.layout.specs.declared.exception.Exception.{Exception}
@@ -16,3 +17,6 @@ entry_made e a b = λ i. put_mid 8 8 (a i ++ replicate 8 0) (b i)
 pub length_entries : (es : List Exception) → length (flat_map entry es) ≡ 16 * length es
 length_entries [] = refl
 length_entries (e ∷ es) = let h = length_entries es in omega arith
+
+pub length_entries-take : (es : List Exception) (k : ℕ) → k ≤ length es → length (flat_map entry (take k es)) ≡ 16 * k
+length_entries-take es k h = length_entries (take k es) ∙ ap (λ n. 16 * n) (length-take-le k es h)

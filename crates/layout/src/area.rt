@@ -12,7 +12,7 @@ const ENTRIES: usize = SECTOR / ENTRY;
 pub fn entry_at(bytes: &[u8], place: u32) -> Exception
     ensures { result ≡ nth_entry bytes.now place }
 {
-    let (entries, _) = bytes.as_chunks();
+    let (entries, _) = bytes.as_chunks::<ENTRY>();
     match entries.get(place as usize) {
         Some(entry) => Exception::from_bytes(entry),
         None => Exception { old: 0, new: 0 },
