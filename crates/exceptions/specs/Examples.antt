@@ -2,9 +2,8 @@
 use Rattle.std.specs.Prelude.{◌≡◌, ℕ, true, false, List, [], ◌∷◌, ◌++◌, replicate, Some, None, Ok, Err, refl}
 use Rattle.layout.specs.declared.exception.Exception.{Exception}
 use Rattle.exceptions.specs.Search.{first}
-use Rattle.exceptions.specs.Table.{olds, news, lookup, has_old, has_new, next_place, room, last_run, without_run, the_run, allocated, metadata}
+use Rattle.exceptions.specs.Table.{olds, news, push_test, lookup, has_old, has_new, next_place, room, last_run, without_run, the_run, allocated, metadata}
 use Rattle.exceptions.specs.declared.fault.TableFault.TheVariants.{Full, TooWide}
-use Rattle.exceptions.specs.Push.{push_test}
 use Rattle.exceptions.specs.Edges.{exception, four, grown}
 
 -- SEARCH

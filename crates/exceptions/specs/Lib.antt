@@ -1,6 +1,5 @@
 pub mod Search
 pub mod Table
-pub mod Push
 pub mod Listed
 pub mod Edges
 pub mod Examples

@@ -1,8 +1,10 @@
 -- The list of exceptions of a store, in the order in which they were entered. Below, c is the sectors of a chunk.
-use Rattle.std.specs.Prelude.{ℕ, zero, suc, ◌+◌, ◌-◌, ◌*◌, ◌/◌, ◌%◌, ◌^◌, ◌<◌, max, Bool, cond, not, ◌&&◌, List, [], ◌∷◌, length, get_or, take, drop, is_some, Some, None, Option, ◌==◌, nat_lt, slice_index_or}
+use Rattle.std.specs.Prelude.{ℕ, zero, suc, ◌+◌, ◌-◌, ◌*◌, ◌/◌, ◌%◌, ◌^◌, ◌<◌, max, Bool, cond, not, ◌&&◌, List, [], ◌∷◌, length, get_or, take, drop, is_some, Some, None, Option, Ok, Err, Result, if◌then◌else◌, ◌==◌, nat_lt, nat_le, slice_index_or}
 use Rattle.layout.specs.declared.exception.Exception.{Exception}
 use Rattle.layout.specs.Chunks.{per_area, area_chunk, is_area}
 use Rattle.layout.specs.Entries.{nothing}
+use Rattle.exceptions.specs.declared.fault.TableFault.{TableFault}
+use Rattle.exceptions.specs.declared.fault.TableFault.TheVariants.{Full, TooWide}
 use Rattle.exceptions.specs.Search.{first}
 
 -- how many exceptions a store holds at most
@@ -19,6 +21,14 @@ news x = x.new
 -- a number of each exception has 32 bits, as all chunk numbers on a device have
 abbrev pub Below : (Exception → ℕ) → List Exception → Type 0
 Below number table = (i : ℕ) → number (slice_index_or table i nothing) < 2 ^ 32
+
+-- PUSH
+
+-- what a table answers to one more exception: refused where it is full, and then where a number has more than 32 bits
+abbrev pub push_test : List Exception → Exception → Result (Unit {0}) TableFault
+push_test table x =
+    if nat_le entries_at_most (length table) then Err Full
+    else (if nat_lt x.old (2 ^ 32) && nat_lt x.new (2 ^ 32) then Ok tt else Err TooWide)
 
 -- LOOKUP
 

@@ -1,6 +1,6 @@
 // The list of exceptions in memory.
 ghost use Rattle.std.specs.Prelude.{◌≡◌, ◌≤◌, [], ◌∷◌, ◌++◌, length, take, is_ok, IfOk, if◌then◌else◌, vec_len, vec_capacity, nat_le};
-ghost use Rattle.exceptions.specs.Table.{Below, olds, news, entries_at_most, lookup, has_new};
+ghost use Rattle.exceptions.specs.Table.{Below, olds, news, entries_at_most, push_test, lookup, has_new};
 
 use crate::fault::TableFault;
 use crate::search::{Keyed, find};
@@ -44,7 +44,6 @@ pub struct ExceptionTable {
 
 impl ExceptionTable {
     ghost use Rattle.exceptions.specs.Listed.{listed};
-    ghost use Rattle.exceptions.specs.Push.{push_test};
 
     pub fn new(heap: Global) -> Result<ExceptionTable, AllocError>
         ensures { IfOk result (λ t. listed t ≡ []) }

@@ -1,14 +1,15 @@
 // What a table answers, on examples.
-use crate::{ExceptionTable, TableFault};
+use crate::{ExceptionTable, TableFault, follows};
 use layout::{ChunkSize, Exception};
-use std::alloc::{AllocError, Global};
+use std::alloc::Global;
 use std::test::Fail;
 
 // A run of three exceptions, and one by itself.
-fn four(heap: Global) -> Result<ExceptionTable, AllocError> {
+fn four(heap: Global) -> Result<ExceptionTable, Fail> {
     let mut table = ExceptionTable::new(heap)?;
     for (old, new) in [(5, 2), (6, 3), (7, 4), (3, 5)] {
-        let _ = table.push(Exception { old, new });
+        let pushed = table.push(Exception { old, new });
+        pushed.map_err(|_| "a push is refused")?;
     }
     Ok(table)
 }
@@ -29,6 +30,22 @@ fn looks_up(rt: HostRuntime) -> Result<(), Fail> {
     assert_eq!(rt; table.len(), 4);
     table.clear();
     assert_eq!(rt; table.lookup(7), None);
+    Ok(())
+}
+
+// Both numbers rise by one.
+#[test]
+fn follows_in_both(rt: HostRuntime) -> Result<(), Fail> {
+    let a = Exception { old: 5, new: 2 };
+    assert!(rt; follows(a, Exception { old: 6, new: 3 }));
+    assert!(rt; !follows(a, Exception { old: 6, new: 2 }));
+    assert!(rt; !follows(a, Exception { old: 5, new: 3 }));
+    assert!(rt; !follows(a, Exception { old: 4, new: 1 }));
+    let last = Exception {
+        old: u64::MAX,
+        new: u64::MAX,
+    };
+    assert!(rt; !follows(last, Exception { old: 0, new: 0 }));
     Ok(())
 }
 
