@@ -24,7 +24,7 @@ impl ExceptionTable {
         self.as_slice().iter().map(|e| e.new).max()
     }
 
-    // The place after the largest new chunk, be it on the device or not.
+    // The first data chunk after the largest new one, be it on the device or not.
     fn place(&self, size: ChunkSize) -> u64
         ensures place { result ≡ next_place (sectors size) (listed self.now) }
         ensures small { result ≤ 2 ^ 32 + 1 }

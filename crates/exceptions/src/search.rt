@@ -15,6 +15,7 @@ pub fn find<K, R: Keyed<K>>(records: &[R], key: u64) -> Option<usize>
     ensures first { result ≡ first R.keyed key records.now }
     ensures within { IfSome result (λ i. i < length records.now) }
 {
+    // a rule of the project: an empty list is tested first
     if records.is_empty() {
         return None;
     }
