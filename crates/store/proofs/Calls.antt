@@ -8,7 +8,7 @@ use Rattle.device.proofs.Gathers.{writes_spread}
 use Rattle.layout.specs.declared.exception.Exception.{Exception}
 use Rattle.exceptions.specs.Table.{entries_at_most, new_at, lookup, has_old, next_place, fills_area, has_room, room, last_run, without_run}
 use Rattle.exceptions.specs.declared.fault.TableFault.{TableFault}
-use Rattle.exceptions.specs.Push.{push_test}
+use Rattle.exceptions.specs.Table.{push_test}
 use Rattle.layout.specs.Chunks.{per_area, area_chunk, in_copy}
 use Rattle.store.specs.declared.shape.Shape.{Shape}
 use Rattle.store.specs.Judge.{width, on_data}
