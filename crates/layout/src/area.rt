@@ -2,11 +2,8 @@
 ghost use Rattle.std.specs.Prelude.{◌≡◌};
 ghost use Rattle.layout.specs.Entries.{nth_entry, pic, ReadBack};
 
-use crate::exception::{ENTRY, Exception};
+use crate::exception::{ENTRIES, ENTRY, Exception};
 use device::SECTOR;
-
-// How many entries a sector has.
-const ENTRIES: usize = SECTOR / ENTRY;
 
 // Entry number `place` of some bytes; past their end there is nothing but zeros.
 pub fn entry_at(bytes: &[u8], place: u32) -> Exception

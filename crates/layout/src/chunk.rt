@@ -3,6 +3,8 @@ ghost use Rattle.std.specs.Prelude.{◌≡◌};
 ghost use Rattle.std.specs.Option.{ok_or};
 ghost use Rattle.layout.specs.Chunks.{sectors, chunk_size, per_area, area_chunk, area_start, is_data};
 
+use crate::exception::ENTRIES;
+
 // The sectors of a chunk.
 #[derive(Clone, Copy, Debug, PartialEq, Eq)]
 pub enum ChunkSize {
@@ -51,7 +53,7 @@ impl ChunkSize {
     pub fn entries_per_area(self) -> u32
         ensures { result ≡ per_area (sectors self) }
     {
-        32 * self.sectors()
+        ENTRIES as u32 * self.sectors()
     }
 
     // The chunk that is area number `area`.

@@ -3,8 +3,13 @@ ghost use Rattle.std.specs.Prelude.{◌≡◌};
 ghost use Rattle.layout.specs.Entries.{entry, entry_from};
 
 use crate::number::field;
+use device::SECTOR;
 
-pub(crate) const ENTRY: usize = 16;
+// the bytes of an entry
+pub const ENTRY: usize = 16;
+
+// the entries of a sector
+pub const ENTRIES: usize = SECTOR / ENTRY;
 
 // The chunk `old` of the origin has its copy in the chunk `new` of the COW device.
 #[derive(Clone, Copy, PartialEq, Eq, Debug)]

@@ -11,5 +11,5 @@ mod tests;
 
 pub use area::{entries_are_read_back, entry_at, picture};
 pub use chunk::{ChunkSize, NoChunkSize};
-pub use exception::Exception;
+pub use exception::{ENTRIES, ENTRY, Exception};
 pub use header::{Header, HeaderFault, decode_header, encode_header, headers_are_read_back};

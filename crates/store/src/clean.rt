@@ -11,6 +11,7 @@ use crate::sectors::write_lasting;
 use crate::shape::area_sector;
 use crate::spot::Spot;
 use device::{Device, DeviceFault, SECTOR};
+use layout::{ENTRIES, ENTRY};
 
 fn is_zero(bytes: &[u8]) -> bool
     ensures { result ≡ all_zero bytes.now }
@@ -23,12 +24,12 @@ pub fn clean<D: Device>(device: &mut D, end: Spot, bytes: &mut [u8]) -> Result<(
     requires { length bytes.old ≡ 512 * sectors end.size }
     ensures { Runs one (cleaning (sectors end.size) (ending [] end.area end.entry bytes.old)) (D.disk device.old) (told result tt) (D.disk device.new) }
 {
-    let at = 16 * end.entry as usize;
+    let at = ENTRY * end.entry as usize;
     if is_zero(&bytes[at..]) {
         return Ok(());
     }
     bytes[at..].fill(0);
-    let sector = end.entry / 32;
+    let sector = end.entry / ENTRIES as u32;
     let from = SECTOR * sector as usize;
     write_lasting(
         device,

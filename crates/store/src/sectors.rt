@@ -10,7 +10,7 @@ ghost use Rattle.store.specs.Steps.{finished, flushing, making, spoiling, prepar
 use crate::shape::area_sector;
 use device::{Device, DeviceFault, SECTOR, write_sectors, write_zeros};
 use exceptions::ExceptionTable;
-use layout::{ChunkSize, Header, encode_header, picture};
+use layout::{ChunkSize, ENTRIES, Header, encode_header, picture};
 
 // Writes whole sectors and makes them last.
 pub fn write_lasting<D: Device>(device: &mut D, first: u32, bytes: &[u8]) -> Result<(), DeviceFault>
@@ -70,10 +70,11 @@ pub fn enter_last<D: Device>(
     ensures { Runs one (entering (sectors size) (listed table.now) (length (listed table.now) - 1)) (D.disk device.old) (told result tt) (D.disk device.new) }
 {
     let n = table.len() as u32 - 1;
+    let j = n / ENTRIES as u32;
     prepare(device, size, n)?;
     device.flush()?;
-    let sector = picture(table.as_slice(), n / 32);
-    write_lasting(device, area_place(size, n / 32), &sector)
+    let sector = picture(table.as_slice(), j);
+    write_lasting(device, area_place(size, j), &sector)
 }
 
 // Turns the list of a table on the device into its first `left` exceptions.
@@ -87,8 +88,8 @@ pub fn drop_to<D: Device>(
     ensures { Runs one (dropping (sectors size) (take left (listed table.now)) (length (listed table.now))) (D.disk device.old) (told result tt) (D.disk device.new) }
 {
     let kept = &table.as_slice()[..left];
-    let low = left as u32 / 32;
-    let high = (table.len() as u32 - 1) / 32 + 1;
+    let low = (left / ENTRIES) as u32;
+    let high = ((table.len() - 1) / ENTRIES + 1) as u32;
     for j in (low..high).rev() {
         device.write(area_place(size, j), &picture(kept, j))?;
     }
