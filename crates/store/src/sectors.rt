@@ -2,7 +2,7 @@
 ghost use Rattle.std.specs.Prelude.{◌≡◌, ◌+◌, ◌-◌, ◌*◌, ◌/◌, ◌<◌, true, false, length, take};
 ghost use Rattle.device.specs.Answers.{told};
 ghost use Rattle.device.specs.Plans.{Runs, one, then, writing_from};
-ghost use Rattle.layout.specs.Chunks.{sectors, per_area, area_place as place_of};
+ghost use Rattle.layout.specs.Chunks.{sectors, per_area, area_place};
 ghost use Rattle.exceptions.specs.Listed.{listed};
 ghost use Rattle.exceptions.specs.Table.{fills_area};
 ghost use Rattle.store.specs.Steps.{finished, flushing, making, spoiling, preparing, entering, dropping};
@@ -42,7 +42,7 @@ pub fn spoil<D: Device>(device: &mut D, size: ChunkSize) -> Result<(), DeviceFau
 // Where sector number `j` of all areas' sectors stands.
 fn area_place(size: ChunkSize, j: u32) -> u32
     requires { j < 66 }
-    ensures { result ≡ place_of (sectors size) j }
+    ensures { result ≡ area_place (sectors size) j }
 {
     area_sector(size, j / size.sectors()) + j % size.sectors()
 }

@@ -2,7 +2,7 @@
 ghost use Rattle.std.specs.Prelude.{◌≡◌, ◌^◌, ◌<◌, false};
 ghost use Rattle.layout.specs.Chunks.{sectors, area_start};
 ghost use Rattle.exceptions.specs.Listed.{listed};
-ghost use Rattle.store.specs.Judge.{on_data as is_on_data, damaged};
+ghost use Rattle.store.specs.Judge.{on_data, damaged};
 
 use crate::spot::Spot;
 use exceptions::ExceptionTable;
@@ -19,7 +19,7 @@ pub struct Shape {
 impl Shape {
     // Whether a chunk is for data and on the COW device.
     pub fn on_data(self, chunk: u64) -> bool
-        ensures { result ≡ is_on_data self chunk }
+        ensures { result ≡ on_data self chunk }
     {
         self.size.is_data(chunk) && chunk < u64::from(self.chunks)
     }

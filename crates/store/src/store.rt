@@ -5,11 +5,11 @@ ghost use Rattle.device.specs.Plans.{Runs, one, lifted};
 ghost use Rattle.layout.specs.Chunks.{sectors};
 ghost use Rattle.layout.specs.declared.chunk.ChunkSize.TheVariants.{One as Smallest};
 ghost use Rattle.exceptions.specs.Listed.{listed};
-ghost use Rattle.exceptions.specs.Table.{entries_at_most, lookup as found_copy, room, last_run, allocated, metadata};
+ghost use Rattle.exceptions.specs.Table.{entries_at_most, lookup, room, last_run, allocated, metadata};
 ghost use Rattle.store.specs.Answers.{told, gave};
 ghost use Rattle.store.specs.Judge.{on_data};
 ghost use Rattle.store.specs.Refusals.{because, up};
-ghost use Rattle.store.specs.Steps.{shape_heading, opening, finished, flushing, making, spoiling, shaped, in_chunks, enter as entering_chunk, drop_run, data_test, data_read, data_write, copy_read, copy_write, chunk_read, chunk_write};
+ghost use Rattle.store.specs.Steps.{shape_heading, opening, finished, flushing, making, spoiling, shaped, in_chunks, enter, drop_run, data_test, data_read, data_write, copy_read, copy_write, chunk_read, chunk_write};
 
 use crate::fault::StoreFault;
 use crate::open::{load, read_header};
@@ -140,7 +140,7 @@ impl<C: Device> Store<C> {
 
     // The chunk that has the copy of an old chunk, or nothing where no copy exists.
     pub fn lookup(&self, old: u64) -> Option<u64>
-        ensures { result ≡ found_copy (listed self.now.table) old }
+        ensures { result ≡ lookup (listed self.now.table) old }
     {
         self.table.lookup(old)
     }
@@ -194,7 +194,7 @@ impl<C: Device> Store<C> {
 
     // Enters an old chunk of an origin with so many chunks, at the next place.
     pub fn enter(&mut self, olds: u32, old: u64) -> Result<(), StoreFault>
-        ensures call { Runs one (entering_chunk (shaped olds (C.disk self.old.cow).count self.old.size) (listed self.old.table) old) (C.disk self.old.cow) (told result (listed self.new.table)) (C.disk self.new.cow) }
+        ensures call { Runs one (enter (shaped olds (C.disk self.old.cow).count self.old.size) (listed self.old.table) old) (C.disk self.old.cow) (told result (listed self.new.table)) (C.disk self.new.cow) }
         ensures size { self.new.size ≡ self.old.size }
         ensures table { OnErr result (listed self.new.table ≡ listed self.old.table) }
     {
