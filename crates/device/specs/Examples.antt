@@ -1,5 +1,5 @@
 -- The definitions on small closed examples.
-use Rattle.std.specs.Prelude.{◌≡◌, ℕ, ◌+◌, ◌*◌, Bool, true, false, List, [], ◌∷◌, ◌++◌, replicate, refl}
+use Rattle.std.specs.Prelude.{◌≡◌, ℕ, ◌+◌, ◌*◌, Bool, true, false, List, [], ◌∷◌, ◌++◌, replicate, Some, refl}
 use Rattle.device.specs.Disk.{Bytes, possibilities, Disk, Fate, calm, Op, reads, writes, flushes, way, off, Told, good, refused, Refusal, refusal, told_by, after_by}
 use Rattle.device.specs.Plain.{plain, fit, fitness}
 use Rattle.device.specs.Fuse.{passes_on, spent, blown_by}
@@ -124,22 +124,22 @@ too_many = refl
 
 -- FUSES
 
-pub passes_write : passes_on (writes 0 (full 1)) 1 false ≡ true
+pub passes_write : passes_on (writes 0 (full 1)) (Some 1) ≡ true
 passes_write = refl
 
-pub spent_fuse : passes_on flushes 0 false ≡ false
+pub spent_fuse : passes_on flushes (Some 0) ≡ false
 spent_fuse = refl
 
-pub reads_pass : passes_on (reads 512 0) 0 false ≡ true
+pub reads_pass : passes_on (reads 512 0) (Some 0) ≡ true
 reads_pass = refl
 
-pub refused_not_counted : spent (writes 9 (full 1)) 4 (refused (refusal 2 9)) ≡ 4
+pub refused_not_counted : spent (writes 9 (full 1)) (Some 4) (refused (refusal 2 9)) ≡ Some 4
 refused_not_counted = refl
 
-pub good_counted : spent flushes 4 (good []) ≡ 3
+pub good_counted : spent flushes (Some 4) (good []) ≡ Some 3
 good_counted = refl
 
-pub place_blows_nothing : blown_by false (refused (refusal 2 9)) ≡ false
+pub place_blows_nothing : blown_by (Some 4) (refused (refusal 2 9)) ≡ Some 4
 place_blows_nothing = refl
 
 -- PLANS

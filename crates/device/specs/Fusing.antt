@@ -1,14 +1,13 @@
 -- The calls of a fuse: passed on, or held back.
-use Rattle.std.specs.Prelude.{◌≡◌, ℕ, suc, ◌<◌, ◌≤◌, Bool, true, false, cond, not, ◌&&◌, List, [], ◌∷◌, map, length, get_or, ◌==◌, nat_lt, slice_index_or, refl}
+use Rattle.std.specs.Prelude.{◌≡◌, ℕ, suc, ◌<◌, Bool, true, false, cond, List, [], ◌∷◌, map, length, get_or, ◌==◌, Option, None, Some, is_some, slice_index_or, refl}
 use Rattle.std.proofs.Common.{sym, ap, ◌∙◌, ⊎_elim}
-use Rattle.std.proofs.lemmas.Bool.{eq-eqb, ne_eqb, cond-true, cond-false, cases_eq, both_ways, and_left, and_right, le-ltb, not_from_true}
-use Rattle.device.specs.Disk.{Bytes, Cell, Disk, Fate, thin, torn, Op, reads, writes, flushes, place, tests, at_sector, Way, leaves, refuses, stands, Told, Refusal, refusal, refused, told_by, after_by, Called, Whole, calm}
-use Rattle.device.specs.Answers.{sector_test}
-use Rattle.device.specs.Fuse.{fused, passes_on, blown_by, Burnt}
-use Rattle.device.specs.Ways.{way_here, goes_by, stopped}
+use Rattle.std.proofs.lemmas.Bool.{eq-eqb, ne_eqb, cond-true, cond-false, cases_eq, and_left}
+use Rattle.device.specs.Disk.{Bytes, Cell, Disk, Fate, thin, torn, Op, reads, writes, flushes, place, Way, leaves, refuses, stands, refusal, refused, told_by, after_by, Called, Whole, calm}
+use Rattle.device.specs.Fuse.{fused}
+use Rattle.device.specs.Ways.{way_here, goes_by, as_called, read_gone}
 
-pub fused_whole : (d : Disk) (b : Bool) → Whole d → Whole (fused d b)
-fused_whole d b w = record { some = w.some; few = w.few; long = w.long }
+pub fused_whole : (d : Disk) (left : Option ℕ) → Whole d → Whole (fused d left)
+fused_whole d left w = record { some = w.some; few = w.few; long = w.long }
 
 -- A FATE THAT LOSES NOTHING
 
@@ -61,50 +60,27 @@ module _ (n : ℕ) (cells : ℕ → Cell) where
 -- THE FUSE BLOWS
 
 -- a call at a fuse that passes nothing on: gone already, or going without a trace
-pub record Blown (o : Op) (d : Disk) (b : Bool) : Type 0 where
+pub record Blown (o : Op) (d : Disk) (left : Option ℕ) : Type 0 where
   pub fate : Fate
   pub w : Way
-  pub is : stands o (fused d b).on fate ≡ w
-  pub answer : refused (refusal 3 (place o)) ≡ told_by w o (fused d b)
-  pub after : fused d true ≡ after_by w o (fused d b) fate
+  pub is : stands o (fused d left).on fate ≡ w
+  pub answer : refused (refusal 3 (place o)) ≡ told_by w o (fused d left)
+  pub after : fused d None ≡ after_by w o (fused d left) fate
 
-blown_way : (o : Op) (n : ℕ) (cells : ℕ → Cell) (on b : Bool) → device n cells false ≡ after_by leaves o (device n cells true) (unharmed cells (place o)) → Blown o (device n cells on) b
-blown_way o n cells on true h = record { fate = calm; w = refuses 3 (place o); is = refl; answer = refl; after = refl }
-blown_way o n cells false false h = record { fate = calm; w = refuses 3 (place o); is = refl; answer = refl; after = refl }
-blown_way o n cells true false h = record { fate = unharmed cells (place o); w = leaves; is = refl; answer = refl; after = h }
+blown_way : (o : Op) (n : ℕ) (cells : ℕ → Cell) (on : Bool) (left : Option ℕ) → device n cells false ≡ after_by leaves o (device n cells true) (unharmed cells (place o)) → Blown o (device n cells on) left
+blown_way o n cells on None h = record { fate = calm; w = refuses 3 (place o); is = refl; answer = refl; after = refl }
+blown_way o n cells false (Some k) h = record { fate = calm; w = refuses 3 (place o); is = refl; answer = refl; after = refl }
+blown_way o n cells true (Some k) h = record { fate = unharmed cells (place o); w = leaves; is = refl; answer = refl; after = h }
 
-module _ (d : Disk) (b : Bool) where
-  pub fuse_write : (s : ℕ) (bytes : Bytes) → length bytes ≡ 512 → s < d.count → Called (writes s bytes) (fused d b) (refused (refusal 3 s)) (fused d true)
+module _ (d : Disk) (left : Option ℕ) where
+  pub fuse_write : (s : ℕ) (bytes : Bytes) → length bytes ≡ 512 → s < d.count → Called (writes s bytes) (fused d left) (refused (refusal 3 s)) (fused d None)
   fuse_write s bytes e h =
-      let x = blown_way (writes s bytes) d.count d.cells d.on b (gone_in_write d.count d.cells s bytes) in
-      goes_by x.fate x.w (way_here (length bytes) s (fused d b) _ e h ∙ x.is) x.answer x.after
+      let x = blown_way (writes s bytes) d.count d.cells d.on left (gone_in_write d.count d.cells s bytes) in
+      goes_by x.fate x.w (way_here (length bytes) s (fused d left) _ e h ∙ x.is) x.answer x.after
 
-  pub fuse_flush : Called flushes (fused d b) (refused (refusal 3 0)) (fused d true)
-  fuse_flush = let x = blown_way flushes d.count d.cells d.on b (gone_in_flush d.count d.cells) in goes_by x.fate x.w x.is x.answer x.after
+  pub fuse_flush : Called flushes (fused d left) (refused (refusal 3 0)) (fused d None)
+  fuse_flush = let x = blown_way flushes d.count d.cells d.on left (gone_in_flush d.count d.cells) in goes_by x.fate x.w x.is x.answer x.after
 
-  pub fused_gone : b ≡ true → (fused d b).on ≡ false
-  fused_gone is = ap (λ x. (fused d x).on) is
-
--- HELD BACK
-
-pub held_back : {o : Op} {left : ℕ} {b b' : Bool} {d : Disk} {t : Told Refusal Bytes} → passes_on o left b ≡ false → t ≡ told_by (tests o d (refuses 3 (place o))) o d → b' ≡ blown_by b t → Burnt o left b d t left b' d
-held_back {o} {left} {b} dead is blown = record { passed = λ h. absurd (both_ways (passes_on o left b) dead h); held = λ _. (is, refl, blown, refl) }
-
-pub spent_up : (b : Bool) (left : ℕ) → left ≤ 0 → not b && nat_lt 0 left ≡ false
-spent_up b left h = and_right (not b) (nat_lt 0 left) (le-ltb 0 left h)
-
-pub blown_up : (b : Bool) (left : ℕ) → b ≡ true → not b && nat_lt 0 left ≡ false
-blown_up b left h = and_left (not b) (nat_lt 0 left) (not_from_true b h)
-
--- a call that the tests refuse, and one that they let through
-module _ {left : ℕ} {b : Bool} {d : Disk} where
-  pub held_stopped : (len s : ℕ) (o : Op) {t : Told Refusal Bytes} {r : Refusal} → passes_on o left b ≡ false → ((w : Way) → tests o d w ≡ at_sector len s d w) → t ≡ refused r → refused r ≡ sector_test len s d.count → Burnt o left b d t left b d
-  held_stopped len s o dead tested is h =
-      let x = stopped len s o d (refuses 3 (place o)) calm h in
-      held_back dead (is ∙ x.answer ∙ ap (λ v. told_by v o d) (sym (tested (refuses 3 (place o))))) (sym (ap (blown_by b) is ∙ cond-false _ _ _ x.early))
-
-  pub write_held : {s : ℕ} {bytes : Bytes} → not b && nat_lt 0 left ≡ false → length bytes ≡ 512 → s < d.count → Burnt (writes s bytes) left b d (refused (refusal 3 s)) left true d
-  write_held {s} {bytes} dead e h = held_back dead (ap (λ v. told_by v (writes s bytes) d) (sym (way_here (length bytes) s d _ e h))) refl
-
-  pub read_held : {s len : ℕ} → b ≡ true → len ≡ 512 → s < d.count → Burnt (reads len s) left b d (refused (refusal 3 s)) left b d
-  read_held {s} {len} blown e h = held_back (not_from_true b blown) (ap (λ v. told_by v (reads len s) d) (sym (way_here len s d _ e h))) blown
+  -- it is gone already
+  pub fuse_read : (len s : ℕ) → is_some left ≡ false → len ≡ 512 → s < d.count → Called (reads len s) (fused d left) (refused (refusal 3 s)) (fused d left)
+  fuse_read len s blown e h = as_called (read_gone e h (and_left (is_some left) d.on blown))
