@@ -1,9 +1,9 @@
 -- A buffer that was filled holds what was gathered.
-use Rattle.std.proofs.Common.{◌≡◌, ℕ, zero, suc, ◌+◌, ◌-◌, ◌*◌, ◌/◌, ◌%◌, List, [], ◌∷◌, ◌++◌, length, drop, sym, refl, ap, ◌∙◌, subst, ap₂, append-nil, arith, length-drop}
+use Rattle.std.proofs.Common.{◌≡◌, ℕ, zero, suc, ◌+◌, ◌*◌, ◌/◌, ◌%◌, List, [], ◌∷◌, ◌++◌, length, drop, sym, refl, ap, ◌∙◌, subst, ap₂, append-nil, arith, length-drop}
 use Rattle.std.proofs.lemmas.List.{nil_from_length}
 use Rattle.device.specs.Disk.{Bytes, Disk, Fate, reads, way, Told, good, refused, Refusal, told_by, after_by}
 use Rattle.device.specs.Plans.{Plan, done, ended, run, Runs, one, onward, gathering, spreading, Filled, filling, reading_into, writing_from}
-use Rattle.device.proofs.Loops.{reading_whole, writing_whole, none_yet}
+use Rattle.device.proofs.Loops.{reading_whole, writing_whole}
 use Rattle.device.proofs.Steps.{never}
 
 -- an answer, with the buffer that a good one filled
@@ -38,12 +38,12 @@ pub read_gathers : (s : ℕ) (buffer : Bytes) {d e : Disk} {f : Filled} (n : ℕ
 read_gathers s buffer {d} {e} {f} n long r =
     let whole : length buffer % 512 ≡ 0 = omega arith in
     let count : length buffer / 512 ≡ n = omega arith in
-    let plan : reading_into s buffer ≡ filling s n [] buffer = reading_whole s buffer whole ∙ ap (λ k. filling s k [] buffer) (sym (none_yet (length buffer / 512)) ∙ count) in
+    let plan : reading_into s buffer ≡ filling s n [] buffer = reading_whole s buffer whole ∙ ap (λ k. filling s k [] buffer) count in
     record { fates = r.fates; comes = gathers n s [] buffer long r.fates d (subst (λ p. run one p r.fates d ≡ ended f e) plan r.comes) }
 
 -- writing a buffer of n sectors
 pub writes_spread : (s : ℕ) (bytes : Bytes) (n : ℕ) → length bytes ≡ 512 * n → writing_from s bytes ≡ spreading s n bytes
 writes_spread s bytes n long =
     let whole : length bytes % 512 ≡ 0 = omega arith in
-    let count : length bytes / 512 - 0 ≡ n = omega arith in
+    let count : length bytes / 512 ≡ n = omega arith in
     writing_whole s bytes whole ∙ ap (λ k. spreading s k bytes) count

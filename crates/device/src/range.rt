@@ -1,42 +1,18 @@
 // Ranges of sectors of any device, the lowest first.
-ghost use Rattle.std.specs.Prelude.{◌+◌, ◌*◌, ◌≤◌, [], length, replicate};
 ghost use Rattle.device.specs.Answers.{told};
-ghost use Rattle.device.specs.Disk.{Called, writes};
-ghost use Rattle.device.specs.Plans.{Runs, one, zeroing, nth_part, reading_into, writing_from};
+ghost use Rattle.device.specs.Plans.{Runs, one, zeroing, reading_into, writing_from};
 
 use crate::checks::SECTOR;
 use crate::device::Device;
 use crate::fault::DeviceFault;
 
-fn write_blank<D: Device>(device: &mut D, sector: u32) -> Result<(), DeviceFault>
-    ensures { Called (writes sector (replicate 512 0)) (D.disk device.old) (told result []) (D.disk device.new) }
-{
-    device.write(sector, &[0u8; SECTOR])
-}
-
-// Writes part number `i` of some bytes, one sector long.
-fn write_part<D: Device>(
-    device: &mut D,
-    sector: u32,
-    bytes: &[u8],
-    i: usize,
-) -> Result<(), DeviceFault>
-    requires { 512 * i + 512 ≤ length bytes.now }
-    ensures { Called (writes sector (nth_part bytes.now i)) (D.disk device.old) (told result []) (D.disk device.new) }
-{
-    let at = SECTOR * i;
-    device.write(sector, &bytes[at..at + SECTOR])
-}
-
 // Writes zeros over `n` sectors from `first` on.
 pub fn write_zeros<D: Device>(device: &mut D, first: u32, n: u32) -> Result<(), DeviceFault>
     ensures { Runs one (zeroing first n) (D.disk device.old) (told result tt) (D.disk device.new) }
 {
-    let mut sector = first;
-    for _ in 0..n {
-        write_blank(device, sector)?;
-        // a good write was to a sector on the device, and the next number still fits
-        sector += 1;
+    // no device has sector u32::MAX, so a device refuses before the numbers run out
+    for sector in (first..=u32::MAX).take(n as usize) {
+        device.write(sector, &[0; SECTOR])?;
     }
     Ok(())
 }
@@ -52,11 +28,9 @@ pub fn read_sectors<D: Device>(
     if buffer.len() % SECTOR != 0 {
         return Err(DeviceFault::Length);
     }
-    let mut sector = first;
-    for i in 0..buffer.len() / SECTOR {
-        let at = SECTOR * i;
+    // by place: the contract of `chunks_exact_mut` does not say what the buffer holds after the loop
+    for (sector, at) in (first..=u32::MAX).zip((0..buffer.len()).step_by(SECTOR)) {
         device.read(sector, &mut buffer[at..at + SECTOR])?;
-        sector += 1;
     }
     Ok(())
 }
@@ -68,10 +42,8 @@ pub fn write_sectors<D: Device>(device: &mut D, first: u32, bytes: &[u8]) -> Res
     if bytes.len() % SECTOR != 0 {
         return Err(DeviceFault::Length);
     }
-    let mut sector = first;
-    for i in 0..bytes.len() / SECTOR {
-        write_part(device, sector, bytes, i)?;
-        sector += 1;
+    for (sector, part) in (first..=u32::MAX).zip(bytes.chunks_exact(SECTOR)) {
+        device.write(sector, part)?;
     }
     Ok(())
 }

@@ -1,9 +1,14 @@
-use Rattle.std.proofs.Common.{◌-◌, ◌*◌, ◌/◌, length, drop}
-use Rattle.device.specs.Plans.{spreading, writing_from, one}
+use Rattle.std.proofs.Common.{◌≡◌}
+use Rattle.device.specs.Plans.{writing_from, one}
 use Rattle.device.proofs.Steps.{Comes}
+use Rattle.device.proofs.Loops.{Numbers, spreading_on}
 use Rattle.device.proofs.range.write_sectors.Given as goal
 
-abbrev pub invariant-loop-i : goal.invariant-loop-i
-invariant-loop-i g l =
+abbrev pub invariant-loop-sector : goal.invariant-loop-sector
+invariant-loop-sector g l =
     let disk = g.D.Device.disk in
-    Comes one (writing_from l.first l.bytes) (disk l.initial.device) (spreading l.sector (length l.bytes / 512 - l.i) (drop (512 * l.i) l.bytes)) (disk l.device)
+    record {
+      numbers : Numbers l.sector-iterator.a;
+      size : l.sector-iterator.b.size ≡ 512;
+      plan : Comes one (writing_from l.first l.bytes) (disk l.initial.device) (spreading_on l.sector-iterator) (disk l.device);
+    }

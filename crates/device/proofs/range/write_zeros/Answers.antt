@@ -1,22 +1,25 @@
-use Rattle.std.proofs.Common.{ap, arith}
+use Rattle.std.proofs.Common.{◌≡◌, ap, ap₂, sym, arith}
 use Rattle.device.specs.Plans.{zeroing}
 use Rattle.device.proofs.Steps.{same, ◌⨾◌, called, ends, ends_as, passed_on}
-use Rattle.device.proofs.Loops.{none_yet, zeroing_more, zeroing_none, write_here}
+use Rattle.device.proofs.Loops.{write_here, next_number, zeroing_turn, zeroing_over}
 use Rattle.device.proofs.range.write_zeros.Goals as goal
 
-pub loop-init : goal.loop-init
-loop-init g c = same (ap (zeroing _) (none_yet _))
+pub loop-sector-init : goal.loop-sector-init
+loop-sector-init g c =
+    let start : c.into_iter-sector-iterator.result.iter.start ≡ c.args.first = cc in
+    let count : c.into_iter-sector-iterator.result.n ≡ c.args.n = cc in
+    record { numbers = record { unspent = cc; some = omega arith; last = cc }; plan = same (ap₂ zeroing (sym start) (sym count)) }
 
-pub returns-in_err-write_blank : goal.returns-in_err-write_blank
-returns-in_err-write_blank g c =
-    ends_as (passed_on c.from_residual.result tt _ c.from_residual.ensures.1)
-    (c.loop.invariant ⨾ same (zeroing_more _ _ _ c.loop-test.true) ⨾ called c.in_err-write_blank.ensures)
+pub returns-in_err-write : goal.returns-in_err-write
+returns-in_err-write g c =
+    let turn = zeroing_turn c.loop-sector.sector-iterator c.next.new.self c.in-Some.ensures.steps in
+    ends_as (passed_on c.from_residual.result tt _ c.from_residual.ensures.1) (c.loop-sector.invariant.plan ⨾ same turn ⨾ called c.in_err-write.ensures)
 
-pub overflow_add-sector : goal.overflow_add-sector
-overflow_add-sector g c = omega (arith, write_here c.in_ok-write_blank.ensures, g.met.D.Device.whole c.loop.device)
-
-pub loop-preserved : goal.loop-preserved
-loop-preserved g c = c.loop.invariant ⨾ same (zeroing_more _ _ _ c.loop-test.true) ⨾ called c.in_ok-write_blank.ensures
+pub loop-sector-preserved : goal.loop-sector-preserved
+loop-sector-preserved g c =
+    let turn = zeroing_turn c.loop-sector.sector-iterator c.next.new.self c.in-Some.ensures.steps in
+    let next = next_number c.loop-sector.invariant.numbers c.in-Some.ensures.steps.0 (write_here (g.met.D.Device.whole c.loop-sector.device) c.in_ok-write.ensures) in
+    record { numbers = next.0; plan = c.loop-sector.invariant.plan ⨾ same turn ⨾ called c.in_ok-write.ensures ⨾ same (ap (λ s. zeroing s c.next.new.self.n) (sym next.1)) }
 
 pub returns : goal.returns
-returns g c = ends (c.loop.invariant ⨾ same (zeroing_none _ _ _ c.loop-test.false))
+returns g c = ends (c.loop-sector.invariant.plan ⨾ same (zeroing_over c.loop-sector.sector-iterator c.next.new.self c.loop-sector.invariant.numbers c.in-None.ensures.steps))
