@@ -1,6 +1,5 @@
 -- The device calls that code makes, in their order, up to the first refusal: a tree, since what comes next may go by each answer.
-use Rattle.std.specs.Prelude.{◌≡◌, ℕ, zero, suc, ◌+◌, ◌*◌, ◌/◌, ◌%◌, cond, List, [], ◌∷◌, ◌++◌, length, take, drop, replicate, ◌==◌, refl}
-use Rattle.std.specs.List.{between}
+use Rattle.std.specs.Prelude.{◌≡◌, ℕ, zero, suc, ◌+◌, ◌/◌, ◌%◌, cond, List, [], ◌∷◌, ◌++◌, length, take, drop, replicate, ◌==◌, refl}
 use Rattle.device.specs.Disk.{Bytes, Disk, Fate, Op, reads, writes, way, Told, good, refused, Refusal, refusal, told_by, after_by}
 
 -- a plan ends with an answer, or calls a device and goes on by what it is told; W names the devices
@@ -135,10 +134,6 @@ gathering s zero sofar = done (good sofar)
 gathering s (suc n) sofar = call tt (reads 512 s) (λ t. onward t (λ b. gathering (s + 1) n (sofar ++ b)))
 
 -- BUFFERS
-
--- part i of some bytes, one sector long
-abbrev pub nth_part : Bytes → ℕ → Bytes
-nth_part b i = between (512 * i) (512 * i + 512) b
 
 -- an answer, and the buffer that was read into
 pub record Filled : Type 0 where

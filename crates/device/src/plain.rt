@@ -24,18 +24,9 @@ fn is_fit(len: usize) -> bool
     len > 0 && len % SECTOR == 0 && len < 0x200_0000_0000
 }
 
-fn sector_count(len: usize) -> u32
-    ensures { result ≡ sectors_of len }
-{
-    if is_fit(len) {
-        (len / SECTOR) as u32
-    } else {
-        1
-    }
-}
-
 fn get_sector(all: &[u8], s: u32, buffer: &mut [u8])
-    requires { (512 * s + 512 ≤ length all.now) × (length buffer.old ≡ 512) }
+    requires there { 512 * s + 512 ≤ length all.now }
+    requires long { length buffer.old ≡ 512 }
     ensures { buffer.new ≡ nth_sector all.now s }
 {
     let at = SECTOR * s as usize;
@@ -43,7 +34,8 @@ fn get_sector(all: &[u8], s: u32, buffer: &mut [u8])
 }
 
 fn set_sector(all: &mut [u8], s: u32, bytes: &[u8])
-    requires { (512 * s + 512 ≤ length all.old) × (length bytes.now ≡ 512) }
+    requires there { 512 * s + 512 ≤ length all.old }
+    requires long { length bytes.now ≡ 512 }
     ensures { all.new ≡ with_sector all.old s bytes.now }
 {
     let at = SECTOR * s as usize;
@@ -68,26 +60,15 @@ impl PlainDevice {
         Self { bytes }
     }
 
-    fn usable(&self) -> bool
-        ensures { result ≡ fit (length (contents self.now)) }
-    {
-        is_fit(self.bytes.len())
-    }
-
     // Refuses, at a sector, where the device is gone.
     fn powered(&self, sector: u32) -> Result<(), DeviceFault>
         ensures { told result tt ≡ power_test (fit (length (contents self.now))) sector }
     {
-        if !self.usable() {
-            return Err(DeviceFault::Gone(sector));
+        if self.is_on() {
+            Ok(())
+        } else {
+            Err(DeviceFault::Gone(sector))
         }
-        Ok(())
-    }
-
-    fn count(&self) -> u32
-        ensures { result ≡ sectors_of (length (contents self.now)) }
-    {
-        sector_count(self.bytes.len())
     }
 
     // The bytes, with what was written to the device.
@@ -105,11 +86,15 @@ impl Device for PlainDevice {
     ghost whole = { λ x. plain_whole (contents x) };
 
     fn sectors(&self) -> u32 {
-        self.count()
+        if self.is_on() {
+            (self.bytes.len() / SECTOR) as u32
+        } else {
+            1
+        }
     }
 
     fn is_on(&self) -> bool {
-        self.usable()
+        is_fit(self.bytes.len())
     }
 
     fn read(&mut self, sector: u32, buffer: &mut [u8]) -> Result<(), DeviceFault>
@@ -118,7 +103,7 @@ impl Device for PlainDevice {
         ensures calmly { Calmly (reads (length buffer.old) sector) (plain (contents self.old)) (told result buffer.new) (plain (contents self.new)) }
         ensures same { contents self.new ≡ contents self.old }
     {
-        check_sector(buffer.len(), sector, self.count())?;
+        check_sector(buffer.len(), sector, self.sectors())?;
         self.powered(sector)?;
         get_sector(&self.bytes, sector, buffer);
         Ok(())
@@ -129,7 +114,7 @@ impl Device for PlainDevice {
         ensures calmly { Calmly (writes sector bytes.now) (plain (contents self.old)) (told result []) (plain (contents self.new)) }
         ensures bytes { contents self.new ≡ (if is_ok result then with_sector (contents self.old) sector bytes.now else contents self.old) }
     {
-        check_sector(bytes.len(), sector, self.count())?;
+        check_sector(bytes.len(), sector, self.sectors())?;
         self.powered(sector)?;
         set_sector(self.bytes.as_mut_slice(), sector, bytes);
         Ok(())
@@ -152,6 +137,6 @@ impl PowerCut for PlainDevice {
         ensures cut { MatchOption result ((plain (contents self)).on ≡ false) (λ x. Cut (plain (contents self)) (plain (contents x))) }
         ensures left { result ≡ (if fit (length (contents self)) then Some self else None) }
     {
-        if self.usable() { Some(self) } else { None }
+        self.is_on().then_some(self)
     }
 }

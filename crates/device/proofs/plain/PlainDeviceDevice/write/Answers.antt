@@ -10,20 +10,20 @@ use Rattle.device.proofs.plain.PlainDeviceDevice.write.Goals as goal
 
 pub returns-in_err-check_sector : goal.returns-in_err-check_sector
 returns-in_err-check_sector c =
-    let test = c.in_err-check_sector.ensures ∙ ap (sector_test (length c.args.bytes.now) c.args.sector) c.count.ensures in
+    let test = c.in_err-check_sector.ensures ∙ ap (sector_test (length c.args.bytes.now) c.args.sector) c.sectors.ensures in
     let calmly = write_stopped (passed_on c.from_residual.result _ _ c.from_residual.ensures.1) test in
     record { call = as_called calmly; calmly = calmly; bytes = sym (cond-false _ _ _ (not_ok c.from_residual.result c.from_residual.ensures.0)) }
 
 pub returns-in_err-powered : goal.returns-in_err-powered
 returns-in_err-powered c =
-    let here = tested (length c.args.bytes.now) c.args.sector c.count.result c.in_ok-check_sector.ensures in
+    let here = tested (length c.args.bytes.now) c.args.sector c.sectors.result c.in_ok-check_sector.ensures in
     let calmly = write_unpowered (passed_on c.from_residual-in_err-powered.result _ _ c.from_residual-in_err-powered.ensures.1) c.in_err-powered.ensures here.0 (omega arith) in
     record { call = as_called calmly; calmly = calmly; bytes = sym (cond-false _ _ _ (not_ok c.from_residual-in_err-powered.result c.from_residual-in_err-powered.ensures.0)) }
 
 pub returns : goal.returns
 returns c =
     let self = c.args.self.now in
-    let here = tested (length c.args.bytes.now) c.args.sector c.count.result c.in_ok-check_sector.ensures in
+    let here = tested (length c.args.bytes.now) c.args.sector c.sectors.result c.in_ok-check_sector.ensures in
     let made : c.set_sector.new.all ≡ with_sector (contents self) c.args.sector c.args.bytes.now = c.set_sector.ensures ∙ ap (λ l. with_sector l c.args.sector c.args.bytes.now) c.as_mut_slice.ensures.value in
     let long : length c.set_sector.new.all ≡ self.bytes.len = c.set_sector.auto.all ∙ c.as_mut_slice.ensures.len in
     let bytes = with_items_is self.bytes _ long ∙ made in
