@@ -1,10 +1,10 @@
 -- The calls of a fuse: passed on, or held back.
-use Rattle.std.specs.Prelude.{◌≡◌, ℕ, suc, ◌<◌, Bool, true, false, cond, List, [], ◌∷◌, map, length, get_or, ◌==◌, Option, None, Some, is_some, slice_index_or, refl}
-use Rattle.std.proofs.Common.{sym, ap, ◌∙◌, ⊎_elim}
-use Rattle.std.proofs.lemmas.Bool.{eq-eqb, ne_eqb, cond-true, cond-false, cases_eq, and_left}
-use Rattle.device.specs.Disk.{Bytes, Cell, Disk, Fate, thin, torn, Op, reads, writes, flushes, place, Way, leaves, refuses, stands, refusal, refused, told_by, after_by, Called, Whole, calm}
-use Rattle.device.specs.Fuse.{fused}
-use Rattle.device.specs.Ways.{way_here, goes_by, as_called, read_gone}
+use Rattle.std.specs.Prelude.{◌≡◌, ℕ, suc, Bool, true, false, cond, ◌&&◌, List, [], ◌∷◌, map, length, get_or, ◌==◌, nat_eq, nat_lt, Option, None, Some, is_some, slice_index_or, refl}
+use Rattle.std.proofs.Common.{sym, ap, ap₂, ◌∙◌, subst, ⊎_elim}
+use Rattle.std.proofs.lemmas.Bool.{eq-eqb, ne_eqb, cond-true, cond-false, cases_eq}
+use Rattle.device.specs.Disk.{Bytes, Cell, Disk, Fate, thin, torn, Op, reads, writes, flushes, place, Way, leaves, at_sector, tests, refuses, stands, Told, Refusal, refusal, good, refused, told_by, after_by, Called, Whole, calm}
+use Rattle.device.specs.Fuse.{fused, passes_on, spent, blown_by, Burnt}
+use Rattle.device.specs.Ways.{goes_by}
 
 pub fused_whole : (d : Disk) (left : Option ℕ) → Whole d → Whole (fused d left)
 fused_whole d left w = record { some = w.some; few = w.few; long = w.long }
@@ -72,15 +72,74 @@ blown_way o n cells on None h = record { fate = calm; w = refuses 3 (place o); i
 blown_way o n cells false (Some k) h = record { fate = calm; w = refuses 3 (place o); is = refl; answer = refl; after = refl }
 blown_way o n cells true (Some k) h = record { fate = unharmed cells (place o); w = leaves; is = refl; answer = refl; after = h }
 
-module _ (d : Disk) (left : Option ℕ) where
-  pub fuse_write : (s : ℕ) (bytes : Bytes) → length bytes ≡ 512 → s < d.count → Called (writes s bytes) (fused d left) (refused (refusal 3 s)) (fused d None)
-  fuse_write s bytes e h =
-      let x = blown_way (writes s bytes) d.count d.cells d.on left (gone_in_write d.count d.cells s bytes) in
-      goes_by x.fate x.w (way_here (length bytes) s (fused d left) _ e h ∙ x.is) x.answer x.after
+vanishes : (o : Op) (d : Disk) (left : Option ℕ) → Blown o d left
+vanishes (reads len s) d left = blown_way (reads len s) d.count d.cells d.on left refl
+vanishes (writes s bytes) d left = blown_way (writes s bytes) d.count d.cells d.on left (gone_in_write d.count d.cells s bytes)
+vanishes flushes d left = blown_way flushes d.count d.cells d.on left (gone_in_flush d.count d.cells)
 
-  pub fuse_flush : Called flushes (fused d left) (refused (refusal 3 0)) (fused d None)
-  fuse_flush = let x = blown_way flushes d.count d.cells d.on left (gone_in_flush d.count d.cells) in goes_by x.fate x.w x.is x.answer x.after
+-- A CALL OF A FUSE IS A CALL OF A DEVICE
 
-  -- it is gone already
-  pub fuse_read : (len s : ℕ) → is_some left ≡ false → len ≡ 512 → s < d.count → Called (reads len s) (fused d left) (refused (refusal 3 s)) (fused d left)
-  fuse_read len s blown e h = as_called (read_gone e h (and_left (is_some left) d.on blown))
+-- the tests of a call pass, or they refuse it, and not because the device is gone
+data Tests (o : Op) (d : Disk) : Type 0 where
+  pass : ((w : Way) → tests o d w ≡ w) → Tests o d
+  stop : (n p : ℕ) → nat_eq n 3 ≡ false → ((w : Way) → tests o d w ≡ refuses n p) → Tests o d
+
+at_sector_tests : (o : Op) (d : Disk) (len s : ℕ) → ((w : Way) → tests o d w ≡ at_sector len s d w) → Tests o d
+at_sector_tests o d len s = go (len == 512) (nat_lt s d.count)
+  where
+    go : (x y : Bool) → ((w : Way) → tests o d w ≡ cond x (cond y w (refuses 2 s)) (refuses 1 0)) → Tests o d
+    go true true h = pass h
+    go true false h = stop 2 s refl h
+    go false y h = stop 1 0 refl h
+
+tests_of : (o : Op) (d : Disk) → Tests o d
+tests_of (reads len s) d = at_sector_tests _ d len s (λ w. refl)
+tests_of (writes s bytes) d = at_sector_tests _ d (length bytes) s (λ w. refl)
+tests_of flushes d = pass (λ w. refl)
+
+-- the same of the device in front of it
+fused_tests : (o : Op) (d : Disk) (left : Option ℕ) (w : Way) → tests o (fused d left) w ≡ tests o d w
+fused_tests (reads len s) d left w = refl
+fused_tests (writes s bytes) d left w = refl
+fused_tests flushes d left w = refl
+
+-- a fuse that passes a call on has not blown in it
+still_whole : (o : Op) (k : ℕ) (t : Told Refusal Bytes) → is_some (spent o (Some k) t) ≡ true
+still_whole (reads len s) k t = refl
+still_whole (writes s bytes) k (good a) = refl
+still_whole (writes s bytes) k (refused r) = refl
+still_whole flushes k (good a) = refl
+still_whole flushes k (refused r) = refl
+
+module _ {o : Op} (left : Option ℕ) {left' : Option ℕ} {d d' : Disk} {t : Told Refusal Bytes} where
+  held_called : t ≡ told_by (tests o d (refuses 3 (place o))) o d → left' ≡ blown_by left t → d' ≡ d → Called o (fused d left) t (fused d' left')
+  held_called is blown same = go (tests_of o d)
+    where
+      after : {r : Refusal} → t ≡ refused r → fused d' left' ≡ fused d (cond (r.number == 3) None left)
+      after e = ap₂ fused same (blown ∙ ap (blown_by left) e)
+
+      go : Tests o d → Called o (fused d left) t (fused d' left')
+      go (pass h) =
+          let x = vanishes o d left in
+          let e : t ≡ refused (refusal 3 (place o)) = is ∙ ap (λ w. told_by w o d) (h _) in
+          goes_by x.fate x.w (fused_tests o d left _ ∙ h _ ∙ x.is) (e ∙ x.answer) (after e ∙ x.after)
+      go (stop n p early h) =
+          let e : t ≡ refused (refusal n p) = is ∙ ap (λ w. told_by w o d) (h _) in
+          goes_by calm (refuses n p) (fused_tests o d left _ ∙ h _) e (after e ∙ ap (fused d) (cond-false (n == 3) None left early))
+
+  passed_called : (k : ℕ) → left ≡ Some k → Called o d t d' → left' ≡ spent o left t → Called o (fused d left) t (fused d' left')
+  passed_called k some c less =
+      let good : is_some left' ≡ true = ap is_some (less ∙ ap (λ l. spent o l t) some) ∙ still_whole o k t in
+      let after : d' ≡ fused d' left' = sym (ap (λ b. record { count = d'.count; cells = d'.cells; on = b && d'.on }) good) in
+      subst (λ x. Called o x t (fused d' left')) (sym (ap (fused d) some)) (subst (Called o d t) after c)
+
+pub burnt_called : {o : Op} {left left' : Option ℕ} {d d' : Disk} {t : Told Refusal Bytes} → Burnt o left d t left' d' → Called o (fused d left) t (fused d' left')
+burnt_called {o} {left} {left'} {d} {d'} {t} b = go left refl (passes_on o left) refl
+  where
+    held : passes_on o left ≡ false → Called o (fused d left) t (fused d' left')
+    held dead = let h = b.held dead in held_called left h.0 h.1 h.2
+
+    go : (l : Option ℕ) → left ≡ l → (p : Bool) → passes_on o left ≡ p → Called o (fused d left) t (fused d' left')
+    go None e p h = held (ap (passes_on o) e)
+    go (Some k) e false h = held h
+    go (Some k) e true h = let c = b.passed h in passed_called left k e c.0 c.1
