@@ -114,7 +114,7 @@ impl Device for PlainDevice {
     {
         check_sector(bytes.len(), sector, self.sectors())?;
         self.powered(sector)?;
-        set_sector(self.bytes.as_mut_slice(), sector, bytes);
+        set_sector(&mut self.bytes, sector, bytes);
         Ok(())
     }
 

@@ -1,10 +1,7 @@
 use Rattle.std.proofs.Common.{◌≡◌, length, sym, ap, ap₂, ◌∙◌, subst, arith}
 use Rattle.device.proofs.Steps.{same, ◌⨾◌, called, ends, ends_as, passed_on}
-use Rattle.device.proofs.Loops.{read_here, next_number, Places, place, first_place, next_place, filling_from, filling_over, filling_turn, part_read, put_back, filled_on, reading_whole, reading_part}
+use Rattle.device.proofs.Loops.{read_here, next_number, Places, place, first_place, next_place, filling_from, filling_over, filling_turn, part_read, put_back, filled_on, reading_whole}
 use Rattle.device.proofs.range.read_sectors.Goals as goal
-
-pub returns-then-buffer-ne0 : goal.returns-then-buffer-ne0
-returns-then-buffer-ne0 g c = ends (same (reading_part _ _ c.if-buffer-ne0.true))
 
 pub loop-sector-init : goal.loop-sector-init
 loop-sector-init g c =

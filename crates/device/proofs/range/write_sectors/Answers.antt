@@ -1,10 +1,7 @@
 use Rattle.std.proofs.Common.{◌≡◌, sym, ap, ap₂, ◌∙◌, arith}
 use Rattle.device.proofs.Steps.{same, ◌⨾◌, called, ends, ends_as, passed_on}
-use Rattle.device.proofs.Loops.{write_here, next_number, spreading_all, spreading_turn, spreading_over, writing_whole, writing_part}
+use Rattle.device.proofs.Loops.{write_here, next_number, spreading_all, spreading_turn, spreading_over, writing_whole}
 use Rattle.device.proofs.range.write_sectors.Goals as goal
-
-pub returns-then-bytes-ne0 : goal.returns-then-bytes-ne0
-returns-then-bytes-ne0 g c = ends (same (writing_part _ _ c.if-bytes-ne0.true))
 
 pub loop-sector-init : goal.loop-sector-init
 loop-sector-init g c =

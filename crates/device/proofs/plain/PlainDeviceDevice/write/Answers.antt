@@ -9,6 +9,6 @@ pub returns-clause-calmly : goal.returns-clause-calmly
 returns-clause-calmly c =
     let self = c.args.self.now in
     let here = tested (length c.args.bytes.now) c.args.sector c.sectors.result c.in_ok-check_sector.ensures in
-    let made : c.set_sector.new.all ≡ with_sector (contents self) c.args.sector c.args.bytes.now = c.set_sector.ensures ∙ ap (λ l. with_sector l c.args.sector c.args.bytes.now) c.as_mut_slice.ensures.value in
-    let long : length c.set_sector.new.all ≡ self.bytes.len = c.set_sector.auto.all ∙ c.as_mut_slice.ensures.len in
+    let made : c.set_sector.new.all ≡ with_sector (contents self) c.args.sector c.args.bytes.now = c.set_sector.ensures ∙ ap (λ l. with_sector l c.args.sector c.args.bytes.now) c.deref_mut.ensures.value in
+    let long : length c.set_sector.new.all ≡ self.bytes.len = c.set_sector.auto.all ∙ c.deref_mut.ensures.len in
     plain_writes (contents self) (on_by _ _ c.in_ok-powered.ensures) here.0 (omega arith) (with_items_is self.bytes _ long ∙ made)
