@@ -33,8 +33,7 @@ impl<D> FuseDevice<D> {
     pub fn into_inner(self) -> D
         ensures { result ≡ self.inner }
     {
-        let FuseDevice { inner, left: _ } = self;
-        inner
+        self.inner
     }
 }
 

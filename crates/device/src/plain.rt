@@ -75,8 +75,7 @@ impl PlainDevice {
     pub fn into_bytes(self) -> Vec<u8>
         ensures { result.items ≡ contents self }
     {
-        let PlainDevice { bytes } = self;
-        bytes
+        self.bytes
     }
 }
 

@@ -14,10 +14,10 @@ fn disk(heap: Global, bytes: usize) -> Result<PlainDevice, AllocError> {
 #[test]
 fn plain_fits(rt: HostRuntime) -> Result<(), Fail> {
     let bytes = vec![in rt.alloc(); 0u8; 1024]?;
-    assert_eq!(rt; PlainDevice::fits(&bytes[0..0]), Err(DeviceFault::Length));
-    assert_eq!(rt; PlainDevice::fits(&bytes[0..511]), Err(DeviceFault::Length));
-    assert_eq!(rt; PlainDevice::fits(&bytes[0..512]), Ok(()));
-    assert_eq!(rt; PlainDevice::fits(&bytes[0..513]), Err(DeviceFault::Length));
+    assert_eq!(rt; PlainDevice::fits(&bytes[..0]), Err(DeviceFault::Length));
+    assert_eq!(rt; PlainDevice::fits(&bytes[..511]), Err(DeviceFault::Length));
+    assert_eq!(rt; PlainDevice::fits(&bytes[..512]), Ok(()));
+    assert_eq!(rt; PlainDevice::fits(&bytes[..513]), Err(DeviceFault::Length));
     let mut part = disk(rt.alloc(), 513)?;
     assert_eq!(rt; part.sectors(), 1);
     assert!(rt; !part.is_on());
@@ -59,7 +59,7 @@ fn fuse_of_two(rt: HostRuntime) -> Result<(), Fail> {
     assert_eq!(rt; fuse.flush(), Err(DeviceFault::Gone(0)));
     assert!(rt; !fuse.is_on());
     let bytes = fuse.into_inner().into_bytes();
-    assert!(rt; bytes.len() == 1024);
+    assert_eq!(rt; bytes.len(), 1024);
     assert_eq!(rt; bytes[511], b'o');
     assert_eq!(rt; bytes[512], b'n');
     Ok(())
@@ -80,12 +80,13 @@ fn ranges_after_a_cut(rt: HostRuntime) -> Result<(), Fail> {
     assert_eq!(rt; buffer[512], b'o');
     assert_eq!(rt; buffer[1024], 7);
     write_sectors(&mut left, 0, &buffer)?;
+    // from 0, since the bound of `..100` stays open at an array
     assert_eq!(rt;
         write_sectors(&mut left, 0, &buffer[0..100]),
         Err(DeviceFault::Length)
     );
     let bytes = left.into_bytes();
-    assert!(rt; bytes.len() == 2048);
+    assert_eq!(rt; bytes.len(), 2048);
     assert_eq!(rt; bytes[1024], 7);
     assert_eq!(rt; bytes[1536], b'o');
     Ok(())
