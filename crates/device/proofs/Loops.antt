@@ -16,9 +16,9 @@ use Rattle.std.proofs.iter.Yields.{nat_range_steps}
 use Rattle.std.proofs.iter.runs.Sources.{nat_range_inclusive_steps}
 use borrow.Rule.Slice.PartMut.{put_mid}
 use Rattle.std.proofs.lemmas.Slice.{take-put_mid, drop-put_mid}
-use Rattle.std.proofs.lemmas.Bool.{cond-true, cond-false, eq-eqb, ne_eqb}
+use Rattle.std.proofs.lemmas.Bool.{cond-true, eq-eqb}
 use Rattle.std.proofs.lemmas.List.{take_at, drop_at}
-use Rattle.device.specs.Disk.{Bytes, Disk, Op, reads, writes, Way, refuses, at_sector, Told, good, refused, Refusal, refusal, told_by, Called, Whole}
+use Rattle.device.specs.Disk.{Bytes, Disk, Op, reads, writes, Way, refuses, at_sector, Told, good, refused, Refusal, told_by, Called, Whole}
 use Rattle.device.specs.Plans.{Plan, Steps, done, call, onward, Filled, zeroing, filling, spreading, reading_into, writing_from}
 
 -- A GOOD READ OR WRITE NAMES A SECTOR ON THE DEVICE
@@ -192,11 +192,5 @@ module _ (s : ℕ) (b : Bytes) where
   pub reading_whole : length b % 512 ≡ 0 → reading_into s b ≡ filling s (length b / 512) [] b
   reading_whole h = cond-true (eqb (length b % 512) 0) _ _ (eq-eqb (length b % 512) 0 h)
 
-  pub reading_part : (length b % 512 ≡ 0 → ⊥) → reading_into s b ≡ done (record { answer = refused (refusal 1 0); buffer = b })
-  reading_part h = cond-false (eqb (length b % 512) 0) _ _ (ne_eqb (length b % 512) 0 h)
-
   pub writing_whole : length b % 512 ≡ 0 → writing_from s b ≡ spreading_all s b
   writing_whole h = cond-true (eqb (length b % 512) 0) _ _ (eq-eqb (length b % 512) 0 h)
-
-  pub writing_part : (length b % 512 ≡ 0 → ⊥) → writing_from s b ≡ done (refused (refusal 1 0))
-  writing_part h = cond-false (eqb (length b % 512) 0) _ _ (ne_eqb (length b % 512) 0 h)

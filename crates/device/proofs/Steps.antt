@@ -1,10 +1,9 @@
 -- A run by steps: what each device call, and each call of a function with a plan, brings a plan to.
-use Rattle.std.proofs.Common.{◌≡◌, ℕ, true, false, List, [], ◌∷◌, ◌++◌, is_ok, is_err, IsErrAnd, IfErr, Ok, Err, Result, sym, refl, ap, ◌∙◌, subst, ap₂, append_assoc, append-nil, arith}
-use borrow.Author.Tests.{clash}
+use Rattle.std.proofs.Common.{◌≡◌, ℕ, List, [], ◌∷◌, ◌++◌, IsErrAnd, IfErr, Ok, Err, Result, sym, refl, ap, ◌∙◌, subst, ap₂, append_assoc, append-nil, arith}
 use Rattle.device.specs.declared.fault.DeviceFault.{DeviceFault}
 use Rattle.device.specs.Disk.{Bytes, Disk, Fate, Op, way, Told, Refusal, refusal, refused, told_by, after_by, Called}
 use Rattle.device.specs.Answers.{told, number, where_at}
-use Rattle.device.specs.Plans.{Plan, done, call, World, ended, astray, run, Runs, bind, one, on}
+use Rattle.device.specs.Plans.{Plan, done, call, World, ended, astray, run, Runs, bind}
 
 -- from p at s, some calls lead to q at e, whatever is to come
 pub record Comes {W S A : Type 0} (w : World W S) (p : Plan W A) (s : S) (q : Plan W A) (e : S) : Type 0 where
@@ -57,17 +56,6 @@ pub bind_bind : {W A B C : Type 0} (p : Plan W A) (g : A → Plan W B) (h : B �
 bind_bind (done a) g h = refl
 bind_bind (call x o k) g h = λ i. call x o (λ t. bind_bind (k t) g h i)
 
--- a run of one device, at one of several
-pub ran_on : {W S A : Type 0} {w : World W S} (x : W) {p : Plan (Unit {0}) A} {s : S} {e : Disk} {a : A} → Runs one p (w.get x s) a e → Runs w (on x p) s a (w.set x s e)
-ran_on {W} {S} {A} {w} x {p} {s} {e} {a} r = record { fates = r.fates; comes = ap (run w (on x p) r.fates) (sym (w.set_get x s)) ∙ go p r.fates (w.get x s) r.comes }
-  where
-    go : (p : Plan (Unit {0}) A) (fs : List Fate) (d : Disk) → run one p fs d ≡ ended a e → run w (on x p) fs (w.set x s d) ≡ ended a (w.set x s e)
-    go (done b) [] d h = let same_a : b ≡ a = cc in let same_d : d ≡ e = cc in ap₂ (λ y z. ended y (w.set x s z)) same_a same_d
-    go (done b) (f ∷ fs) d h = never h
-    go (call u o k) [] d h = never h
-    go (call u o k) (f ∷ fs) d h =
-        ap (λ z. run w (on x (k (told_by (way o z f) o z))) fs (w.set x (w.set x s d) (after_by (way o z f) o z f))) (w.get_set x s d) ∙ ap (run w (on x (k (told_by (way o d f) o d))) fs) (w.set_set x s d _) ∙ go (k (told_by (way o d f) o d)) fs (after_by (way o d f) o d f) h
-
 -- what `?` returns where a call refused with y
 pub passed_on : {A B : Type 0} (r : Result A DeviceFault) (b : B) (y : DeviceFault) → IsErrAnd r (λ x. x ≡ y) → told r b ≡ refused (refusal (number y) (where_at y))
 passed_on (Ok a) b y h = absurd h
@@ -77,10 +65,6 @@ passed_on (Err x) b y h = ap (λ z. refused (refusal (number z) (where_at z))) h
 pub untouched_on : {A E X : Type 0} (r : Result A E) → X → IfErr r (λ _. X)
 untouched_on (Ok a) x = tt
 untouched_on (Err e) x = x
-
-pub not_ok : {A E : Type 0} (r : Result A E) → is_err r ≡ true → is_ok r ≡ false
-not_ok (Ok a) h = absurd (clash h)
-not_ok (Err e) h = refl
 
 -- a call of a function with a plan, as the last step
 pub led : {W S A : Type 0} {w : World W S} {p : Plan W A} {s e : S} {a : A} → Runs w p s a e → Comes w p s (done a) e

@@ -1,23 +1,14 @@
 -- One sector of many bytes, read and written, and the calls of a plain device.
-use Rattle.std.specs.Prelude.{◌≡◌, ℕ, ◌+◌, ◌-◌, ◌*◌, ◌/◌, ◌%◌, ◌^◌, ◌<◌, ◌≤◌, Bool, true, false, cond, [], ◌∷◌, ◌++◌, length, take, drop, Ok, Err, Result, ◌==◌, nat_lt, refl}
-use Rattle.std.proofs.Common.{sym, ap, subst, ◌∙◌, append_assoc, ⊎_elim, arith, take-append-drop, length-take, length-drop, length-append, drop-drop, length-take-le, eqb-true, ltb-true}
+use Rattle.std.specs.Prelude.{◌≡◌, ℕ, ◌+◌, ◌-◌, ◌*◌, ◌/◌, ◌%◌, ◌^◌, ◌<◌, ◌≤◌, Bool, true, false, cond, [], ◌∷◌, ◌++◌, length, take, drop, ◌==◌, nat_lt, refl}
+use Rattle.std.proofs.Common.{sym, ap, ◌∙◌, append_assoc, ⊎_elim, arith, take-append-drop, length-take, length-drop, length-append, drop-drop, length-take-le, eqb-true, ltb-true}
 use Rattle.std.proofs.Math.Seq.{drop-append-add}
-use borrow.Rule.Slice.PartMut.{put_mid}
 use Rattle.std.specs.List.{ContainsAt as Has}
 use Rattle.std.proofs.lemmas.List.{take_at, drop_at, length-replicate, take-append-le, drop-append-le}
 use Rattle.std.proofs.ByRecursion.{has_push_cases}
 use Rattle.std.proofs.lemmas.Bool.{eq-eqb, ne_eqb, cond-true, cond-false, cases_eq, cases_lt, and_parts}
-use Rattle.device.specs.Disk.{Bytes, Whole, reads, writes, flushes, passes, put, good, refused, Calmly, calm}
+use Rattle.device.specs.Disk.{Bytes, Whole, writes, passes, put, good, Calmly, calm}
 use Rattle.device.specs.Plain.{nth_sector, with_sector, fit, sectors_of, sector_of, plain}
-use Rattle.device.specs.declared.fault.DeviceFault.{DeviceFault}
-use Rattle.device.specs.Answers.{told, power_test}
-use Rattle.device.specs.Ways.{way_here, calm_by, on_by, off_by, flush_gone}
-
--- what `copy_from_slice` leaves
-pub put_mid_sector : (all : Bytes) (s : ℕ) (bytes : Bytes) → put_mid (512 * s) (512 * s + 512 - 512 * s) all bytes ≡ with_sector all s bytes
-put_mid_sector all s bytes =
-    let k : 512 * s + 512 - 512 * s ≡ 512 = omega arith in
-    ap (λ l. take (512 * s) all ++ (bytes ++ l)) (ap (λ n. drop n (drop (512 * s) all)) k ∙ drop-drop 512 (512 * s) all)
+use Rattle.device.specs.Ways.{way_here, calm_by}
 
 front : (b : ℕ) (xs ys : Bytes) → b + 512 ≤ length xs → take 512 (drop b (xs ++ ys)) ≡ take 512 (drop b xs)
 front b xs ys h =
@@ -82,20 +73,6 @@ module _ (all : Bytes) (is : fit (length all) ≡ true) where
   pub plain_writes : {s : ℕ} {bytes all' : Bytes} → length bytes ≡ 512 → s < sectors_of (length all) → all' ≡ with_sector all s bytes → Calmly (writes s bytes) (plain all) (good []) (plain all')
   plain_writes {s} {bytes} long h after =
       calm_by passes (way_here (length bytes) s (plain all) _ long h ∙ cond-true (fit (length all)) _ _ is) refl (ap plain after ∙ plain_put s bytes long h)
-
-  pub plain_reads : {s len : ℕ} {bytes : Bytes} → len ≡ 512 → s < sectors_of (length all) → bytes ≡ nth_sector all s → Calmly (reads len s) (plain all) (good bytes) (plain all)
-  plain_reads {s} {len} long h after =
-      calm_by passes (way_here len s (plain all) _ long h ∙ cond-true (fit (length all)) _ _ is) (ap good (after ∙ sym (cond-true (fit (length all)) _ _ is))) refl
-
-  pub plain_flushes : Calmly flushes (plain all) (good []) (plain all)
-  plain_flushes = calm_by passes (cond-true (fit (length all)) _ _ is) refl refl
-
--- a flush answers as the test does whether the device is on
-pub plain_flushed : (all : Bytes) (r : Result (Unit {0}) DeviceFault) → told r tt ≡ power_test (fit (length all)) 0 → Calmly flushes (plain all) (told r []) (plain all)
-plain_flushed all (Ok u) h = plain_flushes all (on_by (fit (length all)) 0 h)
-plain_flushed all (Err e) h =
-    let off = off_by (fit (length all)) 0 h in
-    subst (λ x. Calmly flushes (plain all) (refused x) (plain all)) (sym off.1) (flush_gone off.0)
 
 -- the only possibility
 pub only : {x b : Bytes} → Has (x ∷ []) b → x ≡ b
