@@ -18,29 +18,26 @@ use borrow.Rule.Slice.PartMut.{put_mid}
 use Rattle.std.proofs.lemmas.Slice.{take-put_mid, drop-put_mid}
 use Rattle.std.proofs.lemmas.Bool.{cond-true, eq-eqb}
 use Rattle.std.proofs.lemmas.List.{take_at, drop_at}
-use Rattle.device.specs.Disk.{Bytes, Disk, Op, reads, writes, Way, refuses, at_sector, Told, good, refused, Refusal, told_by, Called, Whole}
+use Rattle.device.specs.Disk.{Bytes, Disk, Op, reads, writes, Way, refuses, at_sector, Told, good, Refusal, told_by, Called, Whole}
 use Rattle.device.specs.Plans.{Plan, Steps, done, call, onward, Filled, zeroing, filling, spreading, reading_into, writing_from}
 
 -- A GOOD READ OR WRITE NAMES A SECTOR ON THE DEVICE
-
-refused_not_good : {X : Type 0} {r : Refusal} {a : Bytes} → good a ≡ refused r → X
-refused_not_good e = absurd (let z : ◌≡◌ {A = ℕ} 0 1 = cc in omega arith)
 
 here : (len s : ℕ) (d : Disk) (w : Way) (o : Op) {a : Bytes} → good a ≡ told_by (at_sector len s d w) o d → s < d.count
 here len s d w o {a} is = go (eqb len 512) (ltb s d.count) refl is
   where
     go : (x y : Bool) → ltb s d.count ≡ y → good a ≡ told_by (cond x (cond y w (refuses 2 s)) (refuses 1 0)) o d → s < d.count
     go true true e h = ltb-true s d.count e
-    go true false e h = refused_not_good h
-    go false y e h = refused_not_good h
+    go true false e h = cc
+    go false y e h = cc
 
 -- so the next number still fits
 module _ {d e : Disk} {s : ℕ} {a : Bytes} (whole : Whole d) where
-  pub write_here : {bytes : Bytes} → Called (writes s bytes) d (good a) e → s + 1 < 2 ^ 32
-  write_here {bytes} c = omega (arith, here (length bytes) s d _ (writes s bytes) c.answer, whole)
+  pub write_fits : {bytes : Bytes} → Called (writes s bytes) d (good a) e → s + 1 < 2 ^ 32
+  write_fits {bytes} c = omega (arith, here (length bytes) s d _ (writes s bytes) c.answer, whole)
 
-  pub read_here : {len : ℕ} → Called (reads len s) d (good a) e → s + 1 < 2 ^ 32
-  read_here {len} c = omega (arith, here len s d _ (reads len s) c.answer, whole)
+  pub read_fits : {len : ℕ} → Called (reads len s) d (good a) e → s + 1 < 2 ^ 32
+  read_fits {len} c = omega (arith, here len s d _ (reads len s) c.answer, whole)
 
 -- THE NUMBERS FROM A SECTOR ON
 

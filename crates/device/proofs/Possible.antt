@@ -16,13 +16,9 @@ at_has c p =
     (λ h. subst (Has (possibilities c)) (sym (get_or-eq_default c.older c.latest h)) (last_has c))
     (cases_lt p (length c.older))
 
-each : {X : Type 0} (P : X → Type 0) → ((x : X) → P x) → (xs : List X) → AllByRecursion P xs
-each P h [] = tt
-each P h (x ∷ xs) = (h x, each P h xs)
-
 -- what is kept was possible
 pub kept_has : (c : Cell) (places : List ℕ) (b : Bytes) → Has (kept c places) b → Has (possibilities c) b
-kept_has c places b = all-has (Has (possibilities c)) (kept c places) b (All-map (Has (possibilities c)) (at c) places (each (λ p. Has (possibilities c) (at c p)) (at_has c) places))
+kept_has c places b = all-has (Has (possibilities c)) (kept c places) b (All-map (Has (possibilities c)) (at c) places (All-weaker (Has places) (λ p. Has (possibilities c) (at c p)) (λ p _. at_has c p) places (all_has_itself places)))
 
 get_d_push : {X : Type 0} (xs : List X) (d : X) (k : ℕ) → get_or xs k d ≡ get_or (xs ++ d ∷ []) k d
 get_d_push [] d zero = refl

@@ -1,6 +1,7 @@
--- The calls of a fuse: passed on, or held back.
+-- A call of a fuse, passed on or held back, is a call of a device.
 use Rattle.std.specs.Prelude.{◌≡◌, ℕ, suc, Bool, true, false, cond, ◌&&◌, List, [], ◌∷◌, map, length, get_or, ◌==◌, nat_eq, nat_lt, Option, None, Some, is_some, slice_index_or, refl}
-use Rattle.std.proofs.Common.{sym, ap, ap₂, ◌∙◌, subst, ⊎_elim}
+use Rattle.std.proofs.Math.ListN.{get_or-eq_default}
+use Rattle.std.proofs.Common.{sym, ap, ap₂, ◌∙◌, subst, ⊎_elim, arith}
 use Rattle.std.proofs.lemmas.Bool.{eq-eqb, ne_eqb, cond-true, cond-false, cases_eq}
 use Rattle.device.specs.Disk.{Bytes, Cell, Disk, Fate, thin, torn, Op, reads, writes, flushes, place, Way, leaves, at_sector, tests, refuses, stands, Told, Refusal, refusal, good, refused, told_by, after_by, Called, Whole, calm}
 use Rattle.device.specs.Fuse.{fused, passes_on, spent, blown_by, Burnt}
@@ -24,11 +25,6 @@ all_kept : {A : Type 0} (xs : List A) (d : A) → map (λ p. get_or xs p d) (pla
 all_kept [] d = refl
 all_kept (x ∷ xs) d = ap (λ l. x ∷ l) (shifted x xs d (places xs) ∙ all_kept xs d)
 
--- past the end of a list
-past : {A : Type 0} (xs : List A) (d : A) → slice_index_or xs (length xs) d ≡ d
-past [] d = refl
-past (x ∷ xs) d = past xs d
-
 -- goes, takes nothing and loses nothing; s is the sector that a write names
 abbrev pub unharmed : (ℕ → Cell) → ℕ → Fate
 unharmed cells s = record { goes = true; took = false; keeps = λ t. places (cells t).older; last = length (cells s).older }
@@ -37,7 +33,7 @@ thin_all : (c : Cell) → c ≡ thin c (places c.older)
 thin_all c = λ i. record { older = sym (all_kept c.older c.latest) i; latest = c.latest }
 
 torn_all : (c : Cell) (bytes : Bytes) → c ≡ torn c bytes false (places c.older) (length c.older)
-torn_all c bytes = λ i. record { older = sym (all_kept c.older c.latest) i; latest = sym (past c.older c.latest) i }
+torn_all c bytes = λ i. record { older = sym (all_kept c.older c.latest) i; latest = sym (get_or-eq_default c.older c.latest {n = length c.older} (omega arith)) i }
 
 module _ (n : ℕ) (cells : ℕ → Cell) where
   -- a device with these sectors, on or gone

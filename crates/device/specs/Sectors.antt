@@ -1,4 +1,4 @@
--- One sector of many bytes, read and written, and the calls of a plain device.
+-- One sector of many bytes, read and written, and a write of a plain device.
 use Rattle.std.specs.Prelude.{◌≡◌, ℕ, ◌+◌, ◌-◌, ◌*◌, ◌/◌, ◌%◌, ◌^◌, ◌<◌, ◌≤◌, Bool, true, false, cond, [], ◌∷◌, ◌++◌, length, take, drop, ◌==◌, nat_lt, refl}
 use Rattle.std.proofs.Common.{sym, ap, ◌∙◌, append_assoc, ⊎_elim, arith, take-append-drop, length-take, length-drop, length-append, drop-drop, length-take-le, eqb-true, ltb-true}
 use Rattle.std.proofs.Math.Seq.{drop-append-add}

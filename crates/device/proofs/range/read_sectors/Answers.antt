@@ -1,6 +1,6 @@
 use Rattle.std.proofs.Common.{◌≡◌, length, sym, ap, ap₂, ◌∙◌, subst, arith}
 use Rattle.device.proofs.Steps.{same, ◌⨾◌, called, ends, ends_as, passed_on}
-use Rattle.device.proofs.Loops.{read_here, next_number, Places, place, first_place, next_place, filling_from, filling_over, filling_turn, part_read, put_back, filled_on, reading_whole}
+use Rattle.device.proofs.Loops.{read_fits, next_number, Places, place, first_place, next_place, filling_from, filling_over, filling_turn, part_read, put_back, filled_on, reading_whole}
 use Rattle.device.proofs.range.read_sectors.Goals as goal
 
 pub loop-sector-init : goal.loop-sector-init
@@ -41,7 +41,7 @@ loop-sector-preserved g c =
     let all = c.loop-sector.auto.buffer in
     let places = c.loop-sector.invariant.places in
     let h = c.in-Some.ensures.steps in
-    let number = next_number c.loop-sector.invariant.numbers h.0 (read_here (g.met.D.Device.whole c.loop-sector.device) c.in_ok-read.ensures.call) in
+    let number = next_number c.loop-sector.invariant.numbers h.0 (read_fits (g.met.D.Device.whole c.loop-sector.device) c.in_ok-read.ensures.call) in
     record {
       numbers = number.0;
       places = (next_place places h.1).2;

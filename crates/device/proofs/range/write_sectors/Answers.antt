@@ -1,6 +1,6 @@
 use Rattle.std.proofs.Common.{◌≡◌, sym, ap, ap₂, ◌∙◌, arith}
 use Rattle.device.proofs.Steps.{same, ◌⨾◌, called, ends, ends_as, passed_on}
-use Rattle.device.proofs.Loops.{write_here, next_number, spreading_all, spreading_turn, spreading_over, writing_whole}
+use Rattle.device.proofs.Loops.{write_fits, next_number, spreading_all, spreading_turn, spreading_over, writing_whole}
 use Rattle.device.proofs.range.write_sectors.Goals as goal
 
 pub loop-sector-init : goal.loop-sector-init
@@ -22,7 +22,7 @@ pub loop-sector-preserved : goal.loop-sector-preserved
 loop-sector-preserved g c =
     let h = c.in-Some.ensures.steps in
     let turn = spreading_turn c.loop-sector.sector-iterator c.next.new.self c.loop-sector.invariant.size c.in-Some.part h in
-    let next = next_number c.loop-sector.invariant.numbers h.0 (write_here (g.met.D.Device.whole c.loop-sector.device) c.in_ok-write.ensures) in
+    let next = next_number c.loop-sector.invariant.numbers h.0 (write_fits (g.met.D.Device.whole c.loop-sector.device) c.in_ok-write.ensures) in
     record {
       numbers = next.0;
       size = h.1.0 ∙ c.loop-sector.invariant.size;

@@ -1,7 +1,7 @@
 use Rattle.std.proofs.Common.{◌≡◌, ap, ap₂, sym, arith}
 use Rattle.device.specs.Plans.{zeroing}
 use Rattle.device.proofs.Steps.{same, ◌⨾◌, called, ends, ends_as, passed_on}
-use Rattle.device.proofs.Loops.{write_here, next_number, zeroing_turn, zeroing_over}
+use Rattle.device.proofs.Loops.{write_fits, next_number, zeroing_turn, zeroing_over}
 use Rattle.device.proofs.range.write_zeros.Goals as goal
 
 pub loop-sector-init : goal.loop-sector-init
@@ -18,7 +18,7 @@ returns-in_err-write g c =
 pub loop-sector-preserved : goal.loop-sector-preserved
 loop-sector-preserved g c =
     let turn = zeroing_turn c.loop-sector.sector-iterator c.next.new.self c.in-Some.ensures.steps in
-    let next = next_number c.loop-sector.invariant.numbers c.in-Some.ensures.steps.0 (write_here (g.met.D.Device.whole c.loop-sector.device) c.in_ok-write.ensures) in
+    let next = next_number c.loop-sector.invariant.numbers c.in-Some.ensures.steps.0 (write_fits (g.met.D.Device.whole c.loop-sector.device) c.in_ok-write.ensures) in
     record { numbers = next.0; plan = c.loop-sector.invariant.plan ⨾ same turn ⨾ called c.in_ok-write.ensures ⨾ same (ap (λ s. zeroing s c.next.new.self.n) (sym next.1)) }
 
 pub returns : goal.returns
