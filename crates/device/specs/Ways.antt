@@ -13,6 +13,9 @@ pub goes_by : {o : Op} {d e : Disk} {t : Told Refusal Bytes} (f : Fate) (w : Way
 goes_by {o} {d} {e} {t} f w is a y = record { fate = f; answer = a ∙ ap (λ v. told_by v o d) (sym is); after = y ∙ ap (λ v. after_by v o d f) (sym is) }
 
 -- the same, of a device that does not go
+pub calmly_called : {o : Op} {d e : Disk} {t : Told Refusal Bytes} → Calmly o d t e → Called o d t e
+calmly_called c = record { fate = calm; answer = c.answer; after = c.after }
+
 pub calm_by : {o : Op} {d e : Disk} {t : Told Refusal Bytes} (w : Way) → way o d calm ≡ w → t ≡ told_by w o d → e ≡ after_by w o d calm → Calmly o d t e
 calm_by {o} {d} {e} {t} w is a y = record { answer = a ∙ ap (λ v. told_by v o d) (sym is); after = y ∙ ap (λ v. after_by v o d calm) (sym is) }
 

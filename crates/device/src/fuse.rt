@@ -1,6 +1,6 @@
 // A device that goes after some good writes and flushes.
 ghost use Rattle.std.specs.Prelude.{◌≡◌, [], length, OnErr};
-ghost use Rattle.device.specs.Disk.{reads, writes, flushes};
+ghost use Rattle.device.specs.Disk.{Called, reads, writes, flushes};
 ghost use Rattle.device.specs.Answers.{told};
 ghost use Rattle.device.specs.Fuse.{fused, Burnt};
 ghost use Rattle.device.specs.Fusing.{fused_whole};
@@ -50,7 +50,9 @@ impl<D: Device> Device for FuseDevice<D> {
         self.left.is_some() && self.inner.is_on()
     }
 
+    #[tactic(auto, using(crate::specs::Fusing::burnt_called))]
     fn read(&mut self, sector: u32, buffer: &mut [u8]) -> Result<(), DeviceFault>
+        ensures call { Called (reads (length buffer.old) sector) (fused (D.disk self.old.inner) self.old.left) (told result buffer.new) (fused (D.disk self.new.inner) self.new.left) }
         ensures untouched { OnErr result (buffer.new ≡ buffer.old) }
         ensures burnt { Burnt (reads (length buffer.old) sector) self.old.left (D.disk self.old.inner) (told result buffer.new) self.new.left (D.disk self.new.inner) }
     {
@@ -61,7 +63,9 @@ impl<D: Device> Device for FuseDevice<D> {
         Err(DeviceFault::Gone(sector))
     }
 
+    #[tactic(auto, using(crate::specs::Fusing::burnt_called))]
     fn write(&mut self, sector: u32, bytes: &[u8]) -> Result<(), DeviceFault>
+        ensures call { Called (writes sector bytes.now) (fused (D.disk self.old.inner) self.old.left) (told result []) (fused (D.disk self.new.inner) self.new.left) }
         ensures burnt { Burnt (writes sector bytes.now) self.old.left (D.disk self.old.inner) (told result []) self.new.left (D.disk self.new.inner) }
     {
         match self.left {
@@ -78,7 +82,9 @@ impl<D: Device> Device for FuseDevice<D> {
         }
     }
 
+    #[tactic(auto, using(crate::specs::Fusing::burnt_called))]
     fn flush(&mut self) -> Result<(), DeviceFault>
+        ensures call { Called flushes (fused (D.disk self.old.inner) self.old.left) (told result []) (fused (D.disk self.new.inner) self.new.left) }
         ensures burnt { Burnt flushes self.old.left (D.disk self.old.inner) (told result []) self.new.left (D.disk self.new.inner) }
     {
         match self.left {

@@ -1,6 +1,6 @@
 // A device in memory.
 ghost use Rattle.std.specs.Prelude.{◌≡◌, ◌+◌, ◌*◌, ◌^◌, ◌<◌, ◌≤◌, false, [], length, is_ok, if◌then◌else◌, Some, None, MatchOption, OnErr};
-ghost use Rattle.device.specs.Disk.{Calmly, Cut, reads, writes, flushes};
+ghost use Rattle.device.specs.Disk.{Called, Calmly, Cut, reads, writes, flushes};
 ghost use Rattle.device.specs.Answers.{told, power_test};
 ghost use Rattle.device.specs.Plain.{contents, plain, fit, fitness, sectors_of, nth_sector, with_sector};
 ghost use Rattle.device.specs.Sectors.{plain_whole};
@@ -96,7 +96,9 @@ impl Device for PlainDevice {
         is_fit(self.bytes.len())
     }
 
+    #[tactic(auto, using(crate::specs::Ways::calmly_called))]
     fn read(&mut self, sector: u32, buffer: &mut [u8]) -> Result<(), DeviceFault>
+        ensures call { Called (reads (length buffer.old) sector) (plain (contents self.old)) (told result buffer.new) (plain (contents self.new)) }
         ensures untouched { OnErr result (buffer.new ≡ buffer.old) }
         ensures calmly { Calmly (reads (length buffer.old) sector) (plain (contents self.old)) (told result buffer.new) (plain (contents self.new)) }
         ensures same { contents self.new ≡ contents self.old }
@@ -107,7 +109,9 @@ impl Device for PlainDevice {
         Ok(())
     }
 
+    #[tactic(auto, using(crate::specs::Ways::calmly_called))]
     fn write(&mut self, sector: u32, bytes: &[u8]) -> Result<(), DeviceFault>
+        ensures call { Called (writes sector bytes.now) (plain (contents self.old)) (told result []) (plain (contents self.new)) }
         ensures calmly { Calmly (writes sector bytes.now) (plain (contents self.old)) (told result []) (plain (contents self.new)) }
         ensures bytes { contents self.new ≡ (if is_ok result then with_sector (contents self.old) sector bytes.now else contents self.old) }
     {
@@ -117,7 +121,9 @@ impl Device for PlainDevice {
         Ok(())
     }
 
+    #[tactic(auto, using(crate::specs::Ways::calmly_called))]
     fn flush(&mut self) -> Result<(), DeviceFault>
+        ensures call { Called flushes (plain (contents self.old)) (told result []) (plain (contents self.new)) }
         ensures calmly { Calmly flushes (plain (contents self.old)) (told result []) (plain (contents self.new)) }
         ensures same { contents self.new ≡ contents self.old }
     {

@@ -1,7 +1,7 @@
 use Rattle.std.proofs.Common.{◌≡◌, length, ap, ◌∙◌, arith}
 use Rattle.std.proofs.lemmas.List.{with_items_is}
 use Rattle.device.specs.Plain.{contents, with_sector}
-use Rattle.device.specs.Ways.{tested, on_by}
+use Rattle.device.specs.Ways.{calmly_called, tested, on_by}
 use Rattle.device.specs.Sectors.{plain_writes}
 use Rattle.device.proofs.plain.PlainDeviceDevice.write.Goals as goal
 
@@ -12,3 +12,6 @@ returns-clause-calmly c =
     let made : c.set_sector.new.all ≡ with_sector (contents self) c.args.sector c.args.bytes.now = c.set_sector.ensures ∙ ap (λ l. with_sector l c.args.sector c.args.bytes.now) c.deref_mut.ensures.value in
     let long : length c.set_sector.new.all ≡ self.bytes.len = c.set_sector.auto.all ∙ c.deref_mut.ensures.len in
     plain_writes (contents self) (on_by _ _ c.in_ok-powered.ensures) here.0 (omega arith) (with_items_is self.bytes _ long ∙ made)
+
+pub returns-clause-call : goal.returns-clause-call
+returns-clause-call c = calmly_called (returns-clause-calmly c)
