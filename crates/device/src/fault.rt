@@ -5,6 +5,7 @@ pub enum DeviceFault {
     Length,
     // this sector is not on the device
     Place(u32),
-    // the device is gone, or went inside the call: at this sector, or at 0 in a flush
+    // the device is gone, or went inside the call: at this sector, or at 0 in a flush, since a rule of the project
+    // gives every refusal one place
     Gone(u32),
 }

@@ -10,6 +10,7 @@ use store::StoreFault;
 #[derive(Drop)]
 pub struct Fault(pub StoreFault);
 
+// A rule of the project: a refusal is known by its number, and the lines that are printed show it.
 fn number(fault: StoreFault) -> u32
     ensures { result ≡ (numbers fault).number }
 {

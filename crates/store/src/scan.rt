@@ -29,6 +29,7 @@ pub fn scan<D: Device>(
 {
     let size = shape.size;
     let mut end = None;
+    // a rule of the project: nested loops, left by a label at the end entry
     'areas: for area in 0..AREAS {
         read_sectors(device, area_sector(size, area), bytes)?;
         for entry in 0..size.entries_per_area() {

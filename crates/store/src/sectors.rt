@@ -21,6 +21,9 @@ pub fn write_lasting<D: Device>(device: &mut D, first: u32, bytes: &[u8]) -> Res
     Ok(())
 }
 
+// Device and size go as two below: a struct of both would hold the device by `&mut`, and its clauses would speak of that
+// reference, by `.entry` and `.exit`.
+
 // An empty store: the old header goes first, and the new one comes last.
 pub fn make<D: Device>(device: &mut D, size: ChunkSize) -> Result<(), DeviceFault>
     ensures { Runs one (making (sectors size)) (D.disk device.old) (told result tt) (D.disk device.new) }

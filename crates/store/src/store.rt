@@ -232,6 +232,9 @@ impl<C: Device> Store<C> {
         Ok(())
     }
 
+    // Below a read and a write each: they differ in the device call, so one function for both would take it as a closure and
+    // promise no more than that closure.
+
     // Reads a sector of a data chunk.
     pub fn data_read(&mut self, sector: u32, buffer: &mut [u8]) -> Result<(), StoreFault>
         ensures call { Runs one (data_read (in_chunks (C.disk self.old.cow) self.old.size) sector (length buffer.old)) (C.disk self.old.cow) (told result buffer.new) (C.disk self.new.cow) }
