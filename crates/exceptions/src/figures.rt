@@ -2,7 +2,7 @@
 ghost use Rattle.std.specs.Prelude.{◌≡◌, ◌+◌, ◌^◌, ◌<◌, ◌≤◌, map, max, length, IfSome};
 ghost use Rattle.std.specs.List.{reduce};
 ghost use Rattle.layout.specs.Chunks.{sectors};
-ghost use Rattle.exceptions.specs.Table.{entries_at_most, news, next_place, has_room, room, follows, linked, last_run, allocated, metadata};
+ghost use Rattle.exceptions.specs.Table.{entries_at_most, news, next_place, has_room, room, follows, fills_area, linked, last_run, allocated, metadata};
 ghost use Rattle.exceptions.specs.Listed.{listed};
 
 use crate::table::ExceptionTable;
@@ -15,6 +15,15 @@ pub fn follows(a: Exception, b: Exception) -> bool
     a.old.checked_add(1) == Some(b.old) && a.new.checked_add(1) == Some(b.new)
 }
 
+// Whether exception number `n` is the last of its area.
+pub fn fills_area(n: u32, size: ChunkSize) -> bool
+    ensures { result ≡ fills_area (sectors size) n }
+{
+    let per_area = size.entries_per_area();
+    n % per_area == per_area - 1
+}
+
+// The size of chunks is asked for: a table is made before any size is known, and its store holds both.
 impl ExceptionTable {
     // The largest new chunk, if there is any.
     fn largest(&self) -> Option<u64>
@@ -41,10 +50,8 @@ impl ExceptionTable {
         ensures { result ≡ has_room entries_at_most (sectors size) chunks (length (listed self.now)) place }
     {
         let n = self.len() as u32;
-        let per_area = size.entries_per_area();
-        let fills = n % per_area == per_area - 1;
-        let next_area = size.area_chunk(n / per_area + 1);
-        place < chunks && !(fills && next_area >= chunks) && !self.is_full()
+        let next_area = size.area_chunk(n / size.entries_per_area() + 1);
+        place < chunks && !(fills_area(n, size) && next_area >= chunks) && !self.is_full()
     }
 
     // The next place on a device of so many chunks, or nothing where an exception has no room.

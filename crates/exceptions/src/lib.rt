@@ -11,6 +11,6 @@ mod tests;
 
 pub use edges::edges_hold;
 pub use fault::TableFault;
-pub use figures::follows;
+pub use figures::{fills_area, follows};
 pub use search::{Keyed, find};
 pub use table::{ExceptionTable, New, Old};

@@ -10,7 +10,8 @@ pub trait Keyed<K> {
         ensures { result ≡ keyed self.now };
 }
 
-// The place of the first record with the key, or nothing.
+// The place of the first record with the key, or nothing. A rule of the project: one generic search by key over a slice, from its
+// front.
 pub fn find<K, R: Keyed<K>>(records: &[R], key: u64) -> Option<usize>
     ensures first { result ≡ first R.keyed key records.now }
     ensures within { IfSome result (λ i. i < length records.now) }

@@ -64,7 +64,7 @@ fn load<D: Device>(disk: &mut D, byte: u8) -> u32 {
 fn count_full<D: Device>(disk: &mut D, byte: u8) -> Result<u32, Unexpected> {
     let mut sector = [0u8; SECTOR];
     let mut found = 0;
-    // a `for`, since a read may be refused and `?` ends the count
+    // a `for`: in `try_fold` the count would have to saturate, and the closure to say its type
     for s in 0..disk.sectors() {
         disk.read(s, &mut sector)?;
         if sector == [byte; SECTOR] {

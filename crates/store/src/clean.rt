@@ -20,7 +20,11 @@ fn is_zero(bytes: &[u8]) -> bool
 }
 
 // Writes zeros from the end entry to the end of its area, where a byte there is not zero.
-pub fn clean<D: Device>(device: &mut D, end: Spot, bytes: &mut [u8]) -> Result<(), DeviceFault>
+pub(crate) fn clean<D: Device>(
+    device: &mut D,
+    end: Spot,
+    bytes: &mut [u8],
+) -> Result<(), DeviceFault>
     requires { length bytes.old ≡ 512 * sectors end.size }
     ensures { Runs one (cleaning (sectors end.size) (ending [] end.area end.entry bytes.old)) (D.disk device.old) (told result tt) (D.disk device.new) }
 {

@@ -31,7 +31,7 @@ fn judge_header(header: Header, origin: u32, cow: u32) -> Result<ChunkSize, Stor
 }
 
 // The size of chunks by the header, over an origin of so many sectors.
-pub fn read_header<D: Device>(device: &mut D, origin: u32) -> Result<ChunkSize, StoreFault>
+pub(crate) fn read_header<D: Device>(device: &mut D, origin: u32) -> Result<ChunkSize, StoreFault>
     ensures { Runs one (heading (record { origin = origin; cow = (D.disk device.old).count })) (D.disk device.old) (gave result) (D.disk device.new) }
 {
     let cow = device.sectors();
@@ -41,8 +41,9 @@ pub fn read_header<D: Device>(device: &mut D, origin: u32) -> Result<ChunkSize, 
     judge_header(header, origin, cow)
 }
 
-// The exceptions into an empty table, and zeros after their end; `bytes` is for one area.
-pub fn load<D: Device>(
+// The exceptions into an empty table, and zeros after their end. `bytes`, here and in what it calls, is the part of the work buffer
+// for one area; a type for it would hold the buffer by `&mut`, and clauses would speak of that reference.
+pub(crate) fn load<D: Device>(
     device: &mut D,
     table: &mut ExceptionTable,
     shape: Shape,

@@ -16,7 +16,7 @@ use layout::entry_at;
 const AREAS: u32 = 65;
 
 // Reads the exceptions into an empty table, and finds the end entry; `bytes` is for one area.
-pub fn scan<D: Device>(
+pub(crate) fn scan<D: Device>(
     device: &mut D,
     table: &mut ExceptionTable,
     shape: Shape,

@@ -9,11 +9,15 @@ ghost use Rattle.store.specs.Steps.{finished, flushing, making, spoiling, prepar
 
 use crate::shape::area_sector;
 use device::{Device, DeviceFault, SECTOR, write_sectors, write_zeros};
-use exceptions::ExceptionTable;
+use exceptions::{ExceptionTable, fills_area};
 use layout::{ChunkSize, ENTRIES, Header, encode_header, picture};
 
 // Writes whole sectors and makes them last.
-pub fn write_lasting<D: Device>(device: &mut D, first: u32, bytes: &[u8]) -> Result<(), DeviceFault>
+pub(crate) fn write_lasting<D: Device>(
+    device: &mut D,
+    first: u32,
+    bytes: &[u8],
+) -> Result<(), DeviceFault>
     ensures { Runs one (then (writing_from first bytes.now) (λ _. flushing finished)) (D.disk device.old) (told result tt) (D.disk device.new) }
 {
     write_sectors(device, first, bytes)?;
@@ -21,11 +25,10 @@ pub fn write_lasting<D: Device>(device: &mut D, first: u32, bytes: &[u8]) -> Res
     Ok(())
 }
 
-// Device and size go as two below: a struct of both would hold the device by `&mut`, and its clauses would speak of that
-// reference, by `.entry` and `.exit`.
+// Device and size go as two below: as methods of `Store`, which has both, each would need one clause more, that the rest stays.
 
 // An empty store: the old header goes first, and the new one comes last.
-pub fn make<D: Device>(device: &mut D, size: ChunkSize) -> Result<(), DeviceFault>
+pub(crate) fn make<D: Device>(device: &mut D, size: ChunkSize) -> Result<(), DeviceFault>
     ensures { Runs one (making (sectors size)) (D.disk device.old) (told result tt) (D.disk device.new) }
 {
     device.write(0, &[0u8; SECTOR])?;
@@ -36,7 +39,7 @@ pub fn make<D: Device>(device: &mut D, size: ChunkSize) -> Result<(), DeviceFaul
 }
 
 // The header says from now on that the snapshot is invalid.
-pub fn spoil<D: Device>(device: &mut D, size: ChunkSize) -> Result<(), DeviceFault>
+pub(crate) fn spoil<D: Device>(device: &mut D, size: ChunkSize) -> Result<(), DeviceFault>
     ensures { Runs one (spoiling (sectors size)) (D.disk device.old) (told result tt) (D.disk device.new) }
 {
     write_lasting(device, 0, &encode_header(Header { valid: false, size }))
@@ -55,16 +58,15 @@ fn prepare<D: Device>(device: &mut D, size: ChunkSize, n: u32) -> Result<(), Dev
     requires { n < 2048 }
     ensures { Runs one (preparing (fills_area (sectors size) n) (sectors size) (n / per_area (sectors size) + 1)) (D.disk device.old) (told result tt) (D.disk device.new) }
 {
-    let per_area = size.entries_per_area();
-    if n % per_area == per_area - 1 {
-        write_zeros(device, area_sector(size, n / per_area + 1), size.sectors())
-    } else {
-        Ok(())
+    if !fills_area(n, size) {
+        return Ok(());
     }
+    let next = n / size.entries_per_area() + 1;
+    write_zeros(device, area_sector(size, next), size.sectors())
 }
 
 // Writes the last exception of a table.
-pub fn enter_last<D: Device>(
+pub(crate) fn enter_last<D: Device>(
     device: &mut D,
     size: ChunkSize,
     table: &ExceptionTable,
@@ -81,7 +83,7 @@ pub fn enter_last<D: Device>(
 }
 
 // Turns the list of a table on the device into its first `left` exceptions.
-pub fn drop_to<D: Device>(
+pub(crate) fn drop_to<D: Device>(
     device: &mut D,
     size: ChunkSize,
     table: &ExceptionTable,

@@ -18,14 +18,14 @@ pub struct Shape {
 
 impl Shape {
     // Whether a chunk is for data and on the COW device.
-    pub fn on_data(self, chunk: u64) -> bool
+    pub(crate) fn on_data(self, chunk: u64) -> bool
         ensures { result ≡ on_data self chunk }
     {
         self.size.is_data(chunk) && chunk < u64::from(self.chunks)
     }
 
     // Whether the entry at a spot is damaged after those in the table.
-    pub fn is_damaged(self, table: &ExceptionTable, spot: Spot, e: Exception) -> bool
+    pub(crate) fn is_damaged(self, table: &ExceptionTable, spot: Spot, e: Exception) -> bool
         ensures damaged { result ≡ damaged self spot.area spot.entry (listed table.now) e }
         ensures small { result ≡ false → (e.old < 2 ^ 32) × (e.new < 2 ^ 32) }
     {
@@ -39,7 +39,7 @@ impl Shape {
 }
 
 // The first sector of an area; all areas that are ever read lie low enough.
-pub fn area_sector(size: ChunkSize, area: u32) -> u32
+pub(crate) fn area_sector(size: ChunkSize, area: u32) -> u32
     requires { area < 66 }
     ensures place { result ≡ area_start (sectors size) area }
     ensures low { result < 2 ^ 24 }

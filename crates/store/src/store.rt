@@ -77,16 +77,12 @@ impl<C: Device> Store<C> {
         }
         let shape = self.read_shape(origin)?;
         let area = SECTOR * shape.size.sectors() as usize;
-        match load(&mut self.cow, &mut self.table, shape, &mut work[0..area]) {
-            Ok(()) => {
-                self.size = shape.size;
-                Ok(())
-            }
-            Err(fault) => {
-                self.table.clear();
-                Err(fault)
-            }
+        if let Err(fault) = load(&mut self.cow, &mut self.table, shape, &mut work[..area]) {
+            self.table.clear();
+            return Err(fault);
         }
+        self.size = shape.size;
+        Ok(())
     }
 
     // The numbers of a store by its header.
@@ -206,13 +202,11 @@ impl<C: Device> Store<C> {
         };
         let n = self.table.len();
         self.table.push(Exception { old, new }).unwrap();
-        match enter_last(&mut self.cow, self.size, &self.table) {
-            Ok(()) => Ok(()),
-            Err(fault) => {
-                self.table.truncate(n);
-                Err(StoreFault::Device(fault))
-            }
+        if let Err(fault) = enter_last(&mut self.cow, self.size, &self.table) {
+            self.table.truncate(n);
+            return Err(fault.into());
         }
+        Ok(())
     }
 
     // Drops the last run from the list.
@@ -233,7 +227,7 @@ impl<C: Device> Store<C> {
     }
 
     // Below a read and a write each: they differ in the device call, so one function for both would take it as a closure and
-    // promise no more than that closure.
+    // promise no more than that closure. What a refusal leaves of a buffer is a promise of each call that fills one.
 
     // Reads a sector of a data chunk.
     pub fn data_read(&mut self, sector: u32, buffer: &mut [u8]) -> Result<(), StoreFault>

@@ -1,6 +1,7 @@
 use Rattle.std.proofs.Common.{◌≡◌, ◌≤◌, false, length, take, is_some, vec_items, sym, refl, ap, ◌∙◌, div-le_self, arith}
 use Rattle.std.proofs.lemmas.List.{take_at}
-use Rattle.device.specs.Disk.{good}
+use Rattle.device.specs.Disk.{good, refused}
+use Rattle.store.specs.Answers.{numbers}
 use Rattle.device.proofs.Steps.{same, ◌⨾◌, ran, ends, ends_as}
 use Rattle.layout.specs.Chunks.{sectors}
 use Rattle.exceptions.specs.Table.{lookup}
@@ -8,8 +9,8 @@ use Rattle.store.specs.Steps.{shaped}
 use Rattle.store.proofs.Calls.{roomy, enter_on, entered, pushed}
 use Rattle.store.proofs.store.Store.enter.Goals as goal
 
-pub returns-in-Ok : goal.returns-in-Ok
-returns-in-Ok g c =
+pub returns : goal.returns
+returns g c =
     let self = c.args.self.now in
     let table = vec_items self.table.items in
     let count = (g.C.Device.disk self.cow).count in
@@ -20,7 +21,7 @@ returns-in-Ok g c =
     let few : length table ≤ 2048 = omega (arith, self.table.few, self.table.items.ok.0) in
     let list = pushed s table c.args.old p count c.push.ensures.list c.push.ensures.answer few (omega arith) (div-le_self count (sectors self.size)) (g.met.C.Device.whole self.cow).few (roomy _ _ table p there) in
     let plan = enter_on s table c.args.old p none (omega arith) there in
-    record { call = ends_as (ap good list) (same plan ⨾ ran _ (entered s table c.args.old p list c.in-Ok.ensures)); size = refl; table = tt }
+    record { call = ends_as (ap good list) (same plan ⨾ ran _ (entered s table c.args.old p list c.in_default-enter_last.ensures)); size = refl; table = tt }
 
 pub returns-in-Err : goal.returns-in-Err
 returns-in-Err g c =
@@ -35,7 +36,7 @@ returns-in-Err g c =
     let list = pushed s table c.args.old p count c.push.ensures.list c.push.ensures.answer few (omega arith) (div-le_self count (sectors self.size)) (g.met.C.Device.whole self.cow).few (roomy _ _ table p there) in
     let plan = enter_on s table c.args.old p none (omega arith) there in
     record {
-      call = ends (same plan ⨾ ran _ (entered s table c.args.old p list c.in-Err.ensures));
+      call = ends_as (ap (λ f. refused (numbers f)) c.into.ensures) (same plan ⨾ ran _ (entered s table c.args.old p list c.in-Err.ensures));
       size = refl;
       table = c.truncate.ensures ∙ ap (take c.len-n.result) list ∙ take_at table _ c.len-n.result (sym c.len-n.ensures);
     }

@@ -14,10 +14,10 @@ returns-in_err-shape g c =
       table = refused_case c.from_residual.result _ failed (ap (λ s. vec_items s.table.items) c.in_err-shape.ensures.rest ∙ c.clear.ensures);
     }
 
-pub returns-in-Ok : goal.returns-in-Ok
-returns-in-Ok g c =
+pub returns : goal.returns
+returns g c =
     let whole = cond-true (eqb (length c.args.work.now) 8192) _ _ (eq-eqb _ _ c.if-work-ne-WORK.false) in
-    record { call = ends (same whole ⨾ ran _ c.in_ok-shape.ensures.call ⨾ ran _ c.in-Ok.ensures); size = tt; table = tt }
+    record { call = ends (same whole ⨾ ran _ c.in_ok-shape.ensures.call ⨾ ran _ c.in_default.ensures); size = tt; table = tt }
 
 pub returns-in-Err : goal.returns-in-Err
 returns-in-Err g c =
