@@ -4,3 +4,6 @@ pub mod Possible
 pub mod Ruled
 pub mod Gathers
 pub mod Uses
+pub mod Tests
+pub mod Plains
+pub mod Fuses

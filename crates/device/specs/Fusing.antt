@@ -68,7 +68,7 @@ blown_way o n cells on None h = record { fate = calm; w = refuses 3 (place o); i
 blown_way o n cells false (Some k) h = record { fate = calm; w = refuses 3 (place o); is = refl; answer = refl; after = refl }
 blown_way o n cells true (Some k) h = record { fate = unharmed cells (place o); w = leaves; is = refl; answer = refl; after = h }
 
-vanishes : (o : Op) (d : Disk) (left : Option ℕ) → Blown o d left
+pub vanishes : (o : Op) (d : Disk) (left : Option ℕ) → Blown o d left
 vanishes (reads len s) d left = blown_way (reads len s) d.count d.cells d.on left refl
 vanishes (writes s bytes) d left = blown_way (writes s bytes) d.count d.cells d.on left (gone_in_write d.count d.cells s bytes)
 vanishes flushes d left = blown_way flushes d.count d.cells d.on left (gone_in_flush d.count d.cells)
