@@ -26,9 +26,9 @@ pub stopped : (len s : ℕ) (o : Op) (d : Disk) (w : Way) (f : Fate) {r : Refusa
 stopped len s o d w f {r} is = let x = go (len == 512) (nat_lt s d.count) is in record { answer = x.0; after = x.1; early = x.2 }
   where
     go : (x y : Bool) → refused r ≡ cond x (cond y (good (tt {0})) (refused (refusal 2 s))) (refused (refusal 1 0)) → (refused r ≡ told_by (cond x (cond y w (refuses 2 s)) (refuses 1 0)) o d) × (d ≡ after_by (cond x (cond y w (refuses 2 s)) (refuses 1 0)) o d f) × ((r.number == 3) ≡ false)
-    go true true h = other_answers h
-    go true false h = let e : r ≡ refusal 2 s = cc in (ap refused e, refl, ap (λ x. nat_eq x.number 3) e)
-    go false y h = let e : r ≡ refusal 1 0 = cc in (ap refused e, refl, ap (λ x. nat_eq x.number 3) e)
+    go true true h = cc
+    go true false h = (cc, refl, cc)
+    go false y h = (cc, refl, cc)
 
 -- a write and a read that they refuse leave the device as it was
 module _ {s : ℕ} {d : Disk} {t : Told Refusal Bytes} {r : Refusal} (is : t ≡ refused r) where
@@ -56,7 +56,7 @@ flush_gone {d} g = calm_by (refuses 3 0) (stands_gone flushes d g) refl refl
 
 -- the test whether it is on refuses
 pub off_by : (on : Bool) (s : ℕ) {r : Refusal} → refused r ≡ power_test on s → (on ≡ false) × (r ≡ refusal 3 s)
-off_by true s h = other_answers h
+off_by true s h = cc
 off_by false s h = (refl, cc)
 
 -- a write and a read that this test refuses
