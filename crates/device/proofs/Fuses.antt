@@ -8,7 +8,7 @@ use Rattle.device.specs.Answers.{sector_test}
 use Rattle.device.specs.Fuse.{fused, passes_on, blown_by, Burnt}
 use Rattle.device.specs.Fusing.{vanishes}
 use Rattle.device.specs.Ways.{way_here, goes_by}
-use Rattle.device.proofs.Tests.{stopped}
+use Rattle.device.proofs.Refusals.{stopped}
 
 -- past the end of a list
 pub past : {A : Type 0} (xs : List A) (d : A) → slice_index_or xs (length xs) d ≡ d

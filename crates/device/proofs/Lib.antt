@@ -4,6 +4,6 @@ pub mod Possible
 pub mod Ruled
 pub mod Gathers
 pub mod Uses
-pub mod Tests
+pub mod Refusals
 pub mod Plains
 pub mod Fuses

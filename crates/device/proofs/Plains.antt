@@ -8,7 +8,7 @@ use Rattle.device.specs.Plain.{nth_sector, with_sector, fit, sectors_of, plain}
 use Rattle.device.specs.declared.fault.DeviceFault.{DeviceFault}
 use Rattle.device.specs.Answers.{told, power_test}
 use Rattle.device.specs.Ways.{way_here, calm_by, on_by}
-use Rattle.device.proofs.Tests.{off_by, flush_gone}
+use Rattle.device.proofs.Refusals.{off_by, flush_gone}
 
 -- what `copy_from_slice` leaves
 pub put_mid_sector : (all : Bytes) (s : ℕ) (bytes : Bytes) → put_mid (512 * s) (512 * s + 512 - 512 * s) all bytes ≡ with_sector all s bytes
