@@ -6,7 +6,7 @@ use Rattle.std.proofs.lemmas.Bool.{cases_Bool, both_ways, and_parts, and_right}
 use Rattle.device.specs.Disk.{Bytes, possibilities}
 use Rattle.device.specs.Plans.{Disks}
 use Rattle.recovery.specs.Readings.{image}
-use Rattle.history.specs.Steps.{ground}
+use Rattle.history.specs.Steps.{both_on, ground}
 use Rattle.history.specs.History.{Situation, Call, ask_status, begin_merge, leave_merge, Answer, Happens, refusal, PowerCut, Rejoined, End, completed, under_way, not_done, ending, History, begun, next_call, cut, rejoin}
 use Rattle.history.specs.Machine.{Plain, Machine, only, diverged_at, performed, next, fresh, broken_off, cut_short, Cuts, Follows, Agrees, Simulates}
 use Rattle.history.specs.Promise.{shown, shown_by, apart, kind, is_flush, completes, begins, Last, Candidate, Owed, found_full, FoundFull, RefusedInvalid}
@@ -109,6 +109,11 @@ KeptBy h m = Kept h m.plain (cut_short m.plain m.pending)
 pub while_idle : {m : Machine} {w : Situation} → m.pending ≡ None → Inv m w → On m w
 while_idle idle (inl on) = on
 while_idle idle (inr off) = cc
+
+-- a machine whose devices are both on has nothing under way
+while_on : {m : Machine} {w : Situation} → Inv m w → both_on w.disks ≡ true → m.pending ≡ None
+while_on (inl on) runs = on.idle
+while_on (inr off) runs = absurd (both_ways _ off.gone runs)
 
 pub idle_has : {w : Situation} (m : Machine) → On m w → Has (cut_short m.plain m.pending) m.plain
 idle_has m on = subst (λ o. Has (cut_short m.plain o) m.plain) (sym on.idle) (has_push [] m.plain)
@@ -215,7 +220,7 @@ module _ (m₀ : Machine) (start : Situation) (step : CallSteps) (cut_step : Cut
       let went = step m w after c a r.inv x in
       record {
         machine = next m c (ending a);
-        simulates = (m, r.simulates, went.0, refl, λ idle. (while_idle idle went.1).agrees);
+        simulates = (m, r.simulates, went.0, refl, λ idle. (while_idle idle went.1).agrees, while_on went.1);
         inv = went.1;
         kept = kept_call h c a after x m r.kept went.0 r.inv went.1;
       }

@@ -1,14 +1,14 @@
 -- The promise, from what single steps do.
-use Rattle.std.proofs.Common.{◌≡◌, ℕ, ◌-◌, ◌<◌, false, ◌⊎◌, [], ◌∷◌, length, take, is_some, Some, None, Option, sym, refl, ap, ◌∙◌, subst, inl, inr, ⊎_elim}
+use Rattle.std.proofs.Common.{◌≡◌, ℕ, ◌-◌, ◌<◌, false, T, ◌⊎◌, [], ◌∷◌, length, take, is_some, Some, None, Option, sym, refl, ap, ◌∙◌, subst, inl, inr, ⊎_elim}
 use Rattle.std.proofs.lemmas.Bool.{cases_Bool, both_ways, not-false, ltb-true, cond-false, cond_both}
 use Rattle.device.specs.Disk.{Bytes, good}
 use Rattle.recovery.specs.Readings.{image}
 use Rattle.history.specs.Faults.{pair_fault}
-use Rattle.history.specs.Steps.{work_bytes, closed, test, first, work_length, still_closed}
-use Rattle.history.specs.History.{Situation, Call, read_view, step_merge, reopen, nothing, contents, merged, Happens, PowerCut, refusal, under_way, ending, History}
-use Rattle.history.specs.Machine.{Machine, only, has_chunk, chunk_of, diverged_at, run_length, settled_cell, performed, memory_of, ground_of, reply, unless_refused, Follows, went, told}
-use Rattle.history.specs.Promise.{Owed, FoundFull, ViewKeeps, MergeCompletes, Reopens, StaysInvalid, Protected}
-use Rattle.history.proofs.Invariant.{On, single_is}
+use Rattle.history.specs.Steps.{both_on, work_bytes, closed, test, first, work_length, still_closed}
+use Rattle.history.specs.History.{Situation, Call, read_view, step_merge, reopen, contents, merged, Answer, Happens, joined, PowerCut, refusal, under_way, ending, History}
+use Rattle.history.specs.Machine.{Machine, only, has_chunk, chunk_of, diverged_at, run_length, settled_cell, performed, next, memory_of, ground_of, reply, unless_refused, Follows, went, told}
+use Rattle.history.specs.Promise.{Owed, ViewKeeps, MergeCompletes, Reopens, OpensExactly, StaysInvalid, Protected}
+use Rattle.history.proofs.Invariant.{On, Inv, single_is}
 use Rattle.history.proofs.Refusing.{test_passed}
 use Rattle.history.proofs.Voids.{T_is, served, tests, valid_by, void_unserved}
 use Rattle.history.proofs.Histories.{idle_has, while_idle, Along, CallSteps, CutSteps, AgainSteps, all_along}
@@ -91,22 +91,40 @@ module _ (m₀ : Machine) (start : Situation) (step : CallSteps) (cut_step : Cut
         lasts w after seeing later h k r s b x q some cuts =
             sym (single_is (merge_flushes w after k r x some s) (cuts.origin.one_of s)) ∙ reads w after seeing h k r s b x q
 
-    reopening : Reopens start
-    reopening w after h a as_new runs x = go (at_end h) (step (at_end h).machine w after (reopen work_bytes) a (at_end h).inv x).0
-      where
-        closes : (r : Along m₀ h) → On r.machine w → memory_of r.machine ≡ closed
-        closes r on = sym on.memory ∙ ap (λ z. z.memory) as_new
+    -- an opening of a fresh pair: a device goes inside it, or it answers what the machine says
+    module _ (w after : Situation) (h : History start w) (a : Answer) (as_new : w ≡ joined w.disks) (runs : T (both_on w.disks)) (x : Happens w (reopen work_bytes) a after) where
+      still_runs : On (at_end h).machine w
+      still_runs = ⊎_elim (λ y. y) (λ y. absurd (both_ways _ y.gone (T_is _ runs))) (at_end h).inv
 
-        go : (r : Along m₀ h) → Follows r.machine (reopen work_bytes) a → (ending a ≡ under_way) ⊎ ((a ≡ good nothing) ⊎ FoundFull h)
-        go r (went e) = inl e
-        go r (told e) =
-            let m = r.machine in
-            let on : On m w = ⊎_elim (λ y. y) (λ y. absurd (both_ways _ y.gone (T_is _ runs))) r.inv in
-            let says : a ≡ reply m (reopen work_bytes) = e ∙ ap (λ o. unless_refused o (reply m (reopen work_bytes))) (opens m on.idle (closes r on)) in
-            ⊎_elim
-            (λ void. inr (inr ((r.kept.says m.plain (idle_has m on)).full void)))
-            (λ valid. inr (inl (says ∙ cond-false _ _ _ valid)))
-            (cases_Bool m.plain.void)
+      opened_so : ((both_on after.disks ≡ false) × (ending a ≡ under_way)) ⊎ (a ≡ reply (at_end h).machine (reopen work_bytes))
+      opened_so = go q.0 q.1
+        where
+          m : Machine
+          m = (at_end h).machine
+
+          q : Follows m (reopen work_bytes) a × Inv (next m (reopen work_bytes) (ending a)) after
+          q = step m w after (reopen work_bytes) a (at_end h).inv x
+
+          go : Follows m (reopen work_bytes) a → Inv (next m (reopen work_bytes) (ending a)) after → ((both_on after.disks ≡ false) × (ending a ≡ under_way)) ⊎ (a ≡ reply m (reopen work_bytes))
+          go (told e) y = inr (e ∙ ap (λ o. unless_refused o (reply m (reopen work_bytes))) (opens m still_runs.idle (sym still_runs.memory ∙ ap (λ z. z.memory) as_new)))
+          go (went e) (inr off) = inl (off.gone, e)
+          go (went e) (inl on) =
+              let idle = on.idle in
+              let busy : (next m (reopen work_bytes) (ending a)).pending ≡ Some (reopen work_bytes) = ap (λ y. (next m (reopen work_bytes) y).pending) e in
+              cc
+
+    exactly : OpensExactly m₀ start
+    exactly w after h a as_new runs x stay =
+        ((at_end h).machine, (at_end h).simulates, ⊎_elim (λ y. absurd (both_ways _ y.0 (T_is _ stay))) (λ y. y) (opened_so w after h a as_new runs x))
+
+    reopening : Reopens start
+    reopening w after h a as_new runs x =
+        let m = (at_end h).machine in
+        let on = still_runs w after h a as_new runs x in
+        let says = (at_end h).kept.says m.plain (idle_has m on) in
+        ⊎_elim inl
+        (λ is. inr (⊎_elim (λ void. inr (says.full void)) (λ valid. inl (is ∙ cond-false _ _ _ valid)) (cases_Bool m.plain.void)))
+        (opened_so w after h a as_new runs x)
 
     stays_invalid : StaysInvalid start
     stays_invalid w after h c r invalid x =
@@ -119,6 +137,7 @@ module _ (m₀ : Machine) (start : Situation) (step : CallSteps) (cut_step : Cut
       view = view_keeps;
       merge = merge_completes;
       reopens = reopening;
+      exactly = exactly;
       invalid_for_good = stays_invalid;
       along = λ h. ((at_end h).machine, (at_end h).simulates);
     }

@@ -152,7 +152,7 @@ made_on size d w whole on room r = by (fares (making_fair d.count size room) (λ
     by (fine a is up long) = up
     by (lost p is off) = not_good is
 
-pub starts : (c : ℕ) (d : Disks) (start : Situation) → Whole d.origin → Whole d.cow → Made c d start → (size : ChunkSize) × (chunk_size c ≡ Some size) × On (made size start.disks) start
+pub starts : (c : ℕ) (d : Disks) (start : Situation) → Whole d.origin → Whole d.cow → Made c d start → (size : ChunkSize) × (chunk_size c ≡ Some size) × On (made size start.disks) start × ((s : ℕ) → image start.disks.origin s ≡ image d.origin s)
 starts c d start wo wc m =
     let g = passed closed (make_tests (ground d) closed) (make_sized (ground d) closed (chunk_size c)) m.ran in
     let were = and_parts d.origin.on d.cow.on (not-false _ (first_passed _ _ (still_closed closed ∷ []) g.0)) in
@@ -171,4 +171,5 @@ starts c d start wo wc m =
           (subst (λ e. (s : ℕ) → (e.origin.cells s).older ≡ []) (sym y.left) (λ s. refl))
           (subst (λ e. Stands (sizes e) size [] e.cow) (sym y.left) (subst (λ z. Stands z size [] y.disk) (sym same ∙ ap sizes y.left) st))
           m.pair y.memory,
+      λ s. ap (λ e. image e.origin s) y.left,
     )

@@ -335,11 +335,12 @@ pub record Agrees (p : Plain) (d : Disks) : Type 0 where
 
 -- HISTORIES
 
--- the machine goes along with a history, from m₀ to m: each answer is the expected one; and it reads as the devices do, but where
--- one of them is gone
+-- the machine goes along with a history, from m₀ to m: each answer is the expected one; it reads as the devices do, unless a call is
+-- under way; and a call is under way only where a device is gone
 abbrev pub Simulates : Machine → {start w : Situation} → History start w → Machine → Type 0
 Simulates m₀ begun m = m ≡ m₀
 Simulates m₀ (next_call h c a after x) m =
     (p : Machine) × Simulates m₀ h p × Follows p c a × (m ≡ next p c (ending a)) × (m.pending ≡ None → Agrees m.plain after.disks)
+    × (both_on after.disks ≡ true → m.pending ≡ None)
 Simulates m₀ (cut h after x) m = (p : Machine) × Simulates m₀ h p × Cuts p m × Agrees m.plain after.disks
 Simulates m₀ (rejoin h after x) m = (p : Machine) × Simulates m₀ h p × (m ≡ fresh p)

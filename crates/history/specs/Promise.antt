@@ -8,6 +8,7 @@ use Rattle.exceptions.specs.Table.{lookup}
 use Rattle.store.specs.Refusals.{StoreRefusal}
 use Rattle.store.specs.Steps.{Contents}
 use Rattle.recovery.specs.Readings.{image}
+use Rattle.history.specs.Faults.{store_fault}
 use Rattle.history.specs.Steps.{both_on, work_bytes, Memory, closed, serving, invalid, ground, next_free}
 use Rattle.history.specs.History.{Situation, Call, ask_status, ask_merge, read_origin, read_view, write_origin, write_snapshot, write_merging, flush_all, begin_merge, step_merge, leave_merge, reopen, Reply, nothing, contents, merged, Answer, Happens, Made, PowerCut, joined, End, completed, under_way, not_done, ending, History, begun, next_call, cut, rejoin}
 use Rattle.history.specs.Machine.{Machine, made, finding, reads_at, Simulates}
@@ -154,12 +155,19 @@ SomeCall so (rejoin h after x) = SomeCall so h
 abbrev pub FoundFull : {start w : Situation} → History start w → Type 0
 FoundFull h = SomeCall (λ w c a. found_full w (kind c) (ending a)) h
 
--- a fresh pair opens while both devices answer, unless an origin write found the store full
+-- a fresh pair opens while both devices are on, unless one goes inside the call, or an origin write found the store full
 abbrev pub Reopens : Situation → Type 0
 Reopens start =
     (w after : Situation) (h : History start w) (a : Answer) →
     w ≡ joined w.disks → T (both_on w.disks) → Happens w (reopen work_bytes) a after →
-    (ending a ≡ under_way) ⊎ ((a ≡ good nothing) ⊎ FoundFull h)
+    ((both_on after.disks ≡ false) × (ending a ≡ under_way)) ⊎ ((a ≡ good nothing) ⊎ FoundFull h)
+
+-- exactly: while both devices answer it is good if the machine's view is not void, else refused as invalid
+abbrev pub OpensExactly : Machine → Situation → Type 0
+OpensExactly m₀ start =
+    (w after : Situation) (h : History start w) (a : Answer) →
+    w ≡ joined w.disks → T (both_on w.disks) → Happens w (reopen work_bytes) a after → T (both_on after.disks) →
+    (m : Machine) × Simulates m₀ h m × (a ≡ cond m.plain.void (refused (store_fault 6 0 0)) (good nothing))
 
 -- whether an answer says that the snapshot is invalid
 abbrev pub is_invalid_refusal : Answer → Bool
@@ -183,6 +191,7 @@ pub record Protected (m : Machine) (start : Situation) : Type 0 where
   pub view : ViewKeeps start
   pub merge : MergeCompletes start
   pub reopens : Reopens start
+  pub exactly : OpensExactly m start
   pub invalid_for_good : StaysInvalid start
   pub along : {w : Situation} (h : History start w) → (e : Machine) × Simulates m h e
 
@@ -190,4 +199,10 @@ pub record Protected (m : Machine) (start : Situation) : Type 0 where
 abbrev pub CrashSafe : Type 0
 CrashSafe =
     (c : ℕ) (d : Disks) (start : Situation) → Whole d.origin → Whole d.cow → Made c d start →
-    (size : ChunkSize) × (chunk_size c ≡ Some size) × Protected (made size start.disks) start
+    (size : ChunkSize) × (chunk_size c ≡ Some size) × Protected (made size start.disks) start × ((s : ℕ) → image start.disks.origin s ≡ image d.origin s)
+
+-- every answer of every history is the machine's
+abbrev pub AnswersAreTheMachines : Type 0
+AnswersAreTheMachines =
+    (c : ℕ) (d : Disks) (start w : Situation) (h : History start w) → Whole d.origin → Whole d.cow → Made c d start →
+    (size : ChunkSize) × (chunk_size c ≡ Some size) × (e : Machine) × Simulates (made size start.disks) h e

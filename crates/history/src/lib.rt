@@ -2,10 +2,15 @@
 // function has no code, and its contract names the theorem.
 #![tactic(auto)]
 
-ghost use Rattle.history.specs.Promise.{CrashSafe};
+ghost use Rattle.history.specs.Promise.{CrashSafe, AnswersAreTheMachines};
 
 // A snapshot that was made on any two devices keeps the promise in every history of calls, in any
 // order and with any arguments, of power cuts at any device call, and of pairs put together anew.
 pub fn no_history_breaks_the_promise()
     ensures { CrashSafe }
+{}
+
+// Every answer of every history is the one that two plain disks give.
+pub fn answers_are_the_machines()
+    ensures { AnswersAreTheMachines }
 {}
