@@ -15,7 +15,7 @@ use Rattle.store.specs.Scanning.{Ending, scanning}
 use Rattle.store.specs.Steps.{Contents, shape_of}
 use Rattle.recovery.specs.Readings.{image, scanned, found}
 use Rattle.history.specs.Faults.{Fault, fault, store_up, passed_up}
-use Rattle.history.specs.Steps.{Memory, closed, serving, invalid, plain, merging, ground, Outcome, make, open_pair, origin_read, view_read, origin_write, snapshot_write, status, figures_of, merge_step, Merged}
+use Rattle.history.specs.Steps.{Memory, closed, serving, invalid, Mode, plain, merging, ground, Outcome, make, open_pair, origin_read, view_read, origin_write, snapshot_write, status, figures_of, merge_step, Merged}
 use Rattle.history.specs.History.{Situation, Call, ask_status, ask_merge, read_origin, read_view, write_origin, write_snapshot, write_merging, flush_all, begin_merge, step_merge, leave_merge, reopen, nothing, contents, became_invalid, merged, figures, Answer, offers, Result, plan_of, Happens, joined, Made, PowerCut, History, begun, next_call, cut, rejoin, End, completed, under_way, not_done, ending}
 use Rattle.history.specs.Machine.{Plain, Machine, only, diverged_at, table_of, with_origin, with_view, made, next, fresh as rejoined, expected, Follows, told as as_expected, broken_off, cut_short, finding, reads_at}
 use Rattle.history.specs.Promise.{shown, kind, of_snapshot, Candidate, Owed, found_full, is_invalid_refusal}
@@ -882,6 +882,137 @@ merging_writes_answers = refl
 pub merging_writes_machine : predicted merging_writes (start 1 6 8) (made One (start 1 6 8).disks) ≡ told merging_writes
 unfolding scanning scanned
 merging_writes_machine = refl
+
+-- THE ORDER OF REFUSALS
+
+-- the number that an answer is refused with, 0 where it is good
+abbrev number : {A : Type 0} → Told Fault A → ℕ
+number (good a) = 0
+number (refused f) = f.number
+
+-- a call on some devices, by what is remembered
+abbrev met : Disks → Mode → Memory → Call → ℕ
+met d mode m c = number (said (paced (λ _. calm) 0 (plan_of (ground d) m mode c) d))
+
+-- while both devices are on; while the origin is gone; while the COW device is
+abbrev while_on : Mode → Memory → Call → ℕ
+while_on mode m c = met (new 8).disks mode m c
+
+abbrev no_origin : Mode → Memory → Call → ℕ
+no_origin mode m c = met stopped mode m c
+
+abbrev no_cow : Mode → Memory → Call → ℕ
+no_cow mode m c = met (pair (new 8).disks.origin (off (new 8).disks.cow)) mode m c
+
+-- a pair that serves, with chunks of one sector and no exceptions
+abbrev served : Memory
+served = serving One []
+
+-- bytes that are no sector
+abbrev short : Bytes
+short = 5 ∷ []
+
+-- a making: first all that is tested fails, then ever less. A wrong size is told before the shape
+abbrev makes : Disks → Memory → ℕ → ℕ
+makes d m c = number (answer (calmly (make (ground d) m c) d))
+
+pub order_make :
+    makes stopped served 3 ∷ makes stopped invalid 3 ∷ makes stopped closed 3 ∷ makes (fresh 2) served 3 ∷ makes (fresh 2) invalid 3
+    ∷ makes (fresh 2) closed 3 ∷ makes (fresh 2) closed 1 ∷ makes (fresh 8) closed 2 ∷ makes (fresh 8) closed 1 ∷ []
+    ≡ 5 ∷ 5 ∷ 5 ∷ 4 ∷ 4 ∷ 8 ∷ 9 ∷ 9 ∷ 0 ∷ []
+order_make = refl
+
+-- an opening: then its scan, as above
+pub order_open :
+    no_origin plain served (reopen 512) ∷ no_origin plain served (reopen 8192) ∷ no_cow plain invalid (reopen 8192)
+    ∷ while_on plain served (reopen 8192) ∷ while_on plain invalid (reopen 8192) ∷ while_on plain closed (reopen 512)
+    ∷ while_on plain closed (reopen 8192) ∷ []
+    ≡ 1 ∷ 5 ∷ 5 ∷ 4 ∷ 4 ∷ 1 ∷ 0 ∷ []
+unfolding scanning scanned
+order_open = refl
+
+-- an origin read: an invalid pair serves it
+pub order_origin_read :
+    no_origin plain closed (read_origin 9 5) ∷ no_origin plain closed (read_origin 9 512) ∷ no_cow plain invalid (read_origin 9 512)
+    ∷ while_on plain closed (read_origin 9 512) ∷ while_on plain invalid (read_origin 9 512) ∷ while_on plain served (read_origin 9 512)
+    ∷ while_on plain served (read_origin 1 5) ∷ while_on plain invalid (read_origin 1 512) ∷ while_on plain served (read_origin 1 512) ∷ []
+    ≡ 1 ∷ 5 ∷ 5 ∷ 4 ∷ 2 ∷ 2 ∷ 1 ∷ 0 ∷ 0 ∷ []
+order_origin_read = refl
+
+-- a read of the view, by a pair and by a merging snapshot
+abbrev view_order : Mode → List ℕ
+view_order x =
+    no_origin x closed (read_view 9 5) ∷ no_origin x closed (read_view 9 512) ∷ no_cow x invalid (read_view 9 512)
+    ∷ while_on x closed (read_view 9 512) ∷ while_on x invalid (read_view 9 512) ∷ while_on x served (read_view 9 512)
+    ∷ while_on x served (read_view 1 5) ∷ while_on x served (read_view 1 512) ∷ []
+
+pub order_snapshot_read : view_order plain ≡ 1 ∷ 5 ∷ 5 ∷ 4 ∷ 6 ∷ 2 ∷ 1 ∷ 0 ∷ []
+order_snapshot_read = refl
+
+pub order_merging_read : view_order merging ≡ 1 ∷ 5 ∷ 5 ∷ 4 ∷ 6 ∷ 2 ∷ 1 ∷ 0 ∷ []
+order_merging_read = refl
+
+-- an origin write: an invalid pair serves it
+pub order_origin_write :
+    no_origin plain closed (write_origin 9 short 512) ∷ no_origin plain closed (write_origin 9 (full 1) 512)
+    ∷ no_origin plain closed (write_origin 9 (full 1) 8192) ∷ no_cow plain invalid (write_origin 9 (full 1) 8192)
+    ∷ while_on plain closed (write_origin 9 (full 1) 8192) ∷ while_on plain invalid (write_origin 9 (full 1) 8192)
+    ∷ while_on plain served (write_origin 9 (full 1) 8192) ∷ while_on plain served (write_origin 1 short 8192)
+    ∷ while_on plain served (write_origin 1 (full 1) 512) ∷ while_on plain invalid (write_origin 1 (full 1) 8192)
+    ∷ while_on plain served (write_origin 1 (full 1) 8192) ∷ []
+    ≡ 1 ∷ 1 ∷ 5 ∷ 5 ∷ 4 ∷ 2 ∷ 2 ∷ 1 ∷ 1 ∷ 0 ∷ 0 ∷ []
+order_origin_write = refl
+
+-- a snapshot write; 7 comes last, where the store is full
+pub order_snapshot_write :
+    no_origin plain closed (write_snapshot 9 short 512) ∷ no_origin plain closed (write_snapshot 9 (full 1) 512)
+    ∷ no_origin plain closed (write_snapshot 9 (full 1) 8192) ∷ no_cow plain invalid (write_snapshot 9 (full 1) 8192)
+    ∷ while_on plain closed (write_snapshot 9 (full 1) 8192) ∷ while_on plain invalid (write_snapshot 9 (full 1) 8192)
+    ∷ met tiny.disks plain tiny.memory (write_snapshot 9 (full 1) 8192) ∷ while_on plain served (write_snapshot 1 short 8192)
+    ∷ while_on plain served (write_snapshot 1 (full 1) 512) ∷ met tiny.disks plain tiny.memory (write_snapshot 1 (full 1) 8192)
+    ∷ while_on plain served (write_snapshot 1 (full 1) 8192) ∷ []
+    ≡ 1 ∷ 1 ∷ 5 ∷ 5 ∷ 4 ∷ 6 ∷ 2 ∷ 1 ∷ 1 ∷ 7 ∷ 0 ∷ []
+order_snapshot_write = refl
+
+-- a merging write
+pub order_merging_write :
+    no_origin merging closed (write_merging 9 short) ∷ no_origin merging closed (write_merging 9 (full 1)) ∷ no_cow merging invalid (write_merging 9 (full 1))
+    ∷ while_on merging closed (write_merging 9 (full 1)) ∷ while_on merging invalid (write_merging 9 (full 1)) ∷ while_on merging served (write_merging 9 (full 1))
+    ∷ while_on merging served (write_merging 1 short) ∷ while_on merging served (write_merging 1 (full 1)) ∷ []
+    ≡ 1 ∷ 5 ∷ 5 ∷ 4 ∷ 6 ∷ 2 ∷ 1 ∷ 0 ∷ []
+order_merging_write = refl
+
+-- calls without arguments
+abbrev bare_order : Mode → Call → List ℕ
+bare_order x c = no_origin x closed c ∷ no_cow x invalid c ∷ while_on x closed c ∷ while_on x invalid c ∷ while_on x served c ∷ []
+
+-- a flush of a pair, which an invalid one serves; and of a merging snapshot
+pub order_flush : bare_order plain flush_all ≡ 5 ∷ 5 ∷ 4 ∷ 0 ∷ 0 ∷ []
+order_flush = refl
+
+pub order_merging_flush : bare_order merging flush_all ≡ 5 ∷ 5 ∷ 4 ∷ 6 ∷ 0 ∷ []
+order_merging_flush = refl
+
+-- the merge question
+pub order_question : bare_order plain ask_merge ≡ 5 ∷ 5 ∷ 4 ∷ 6 ∷ 0 ∷ []
+order_question = refl
+
+-- a merge step
+pub order_step :
+    no_origin merging closed (step_merge 512) ∷ no_cow merging invalid (step_merge 512) ∷ while_on merging closed (step_merge 512)
+    ∷ while_on merging invalid (step_merge 512) ∷ while_on merging served (step_merge 512) ∷ bare_order merging (step_merge 8192)
+    ≡ 1 ∷ 1 ∷ 1 ∷ 1 ∷ 1 ∷ 5 ∷ 5 ∷ 4 ∷ 6 ∷ 0 ∷ []
+order_step = refl
+
+-- status, beginning and leaving are refused nowhere
+pub order_status : bare_order plain ask_status ++ bare_order merging ask_status ≡ replicate 10 0
+order_status = refl
+
+pub order_begin : bare_order plain begin_merge ≡ replicate 5 0
+order_begin = refl
+
+pub order_leave : bare_order merging leave_merge ≡ replicate 5 0
+order_leave = refl
 
 -- CUTS INSIDE A CALL
 
