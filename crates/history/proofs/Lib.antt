@@ -4,6 +4,7 @@ pub mod Fairs
 pub mod Invariant
 pub mod Tables
 pub mod Placing
+pub mod Figures
 pub mod Spots
 pub mod Cuts
 pub mod Wholes

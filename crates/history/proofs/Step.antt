@@ -12,6 +12,7 @@ use Rattle.history.specs.History.{Situation, Call, ask_status, ask_merge, read_o
 use Rattle.history.specs.Machine.{Plain, Machine, chunk_of, diverged_at, table_of, can_diverge, finds_full, run_length, opened_by, mode_by, next, ground_of, memory_of, reply, unless_refused, Follows, went, told}
 use Rattle.history.proofs.Invariant.{On, Off, Inv}
 use Rattle.history.proofs.Ends.{open_memory, Up, Down, Ends, good_end, kept_end, off_end, Shut, Reopened, good_open, void_open, off_open}
+use Rattle.history.proofs.Figures.{status_is}
 use Rattle.history.proofs.Refusing.{refusal_tells}
 use Rattle.history.proofs.Refuses.{stopped_at, blind, passing, flush_passed, Tested, not_begun, begun, tested}
 
@@ -195,7 +196,7 @@ once r = let q = run_over r in (ap (λ y. y.answer) q.0, arrived q.0 q.1)
 module _ {m : Machine} {w e : Situation} {a : Answer} (inv : Inv m w) where
   by_status : a ≡ good (figures (status w.mode (ground w.disks) w.memory)) → e ≡ w → Stepped m ask_status a e
   by_status is left =
-      by_end inv (ap ending is) refl (is ∙ ap (λ y. good (figures y)) (alike (λ g x mode. status mode g x) (λ z x y mode. refl) inv)) (subst (Inv m) (sym left) inv)
+      by_end inv (ap ending is) refl (is ∙ ap (λ y. good (figures y)) (alike (λ g x mode. status mode g x) (λ z x y mode. refl) inv ∙ status_is m)) (subst (Inv m) (sym left) inv)
 
   by_question : (t : Option Fault) → tests w ask_merge ≡ t → a ≡ asked t → e ≡ w → Stepped m ask_merge a e
   by_question None found is left = by_end inv (ap ending is) found is (subst (Inv m) (sym left) inv)

@@ -1,6 +1,6 @@
 -- What a snapshot is to do, told by two plain disks: the origin and the view, each sector with its possibilities, and the chunks
 -- that have diverged. The machine is fed each call, how the call ended, and each power cut.
-use Rattle.std.specs.Prelude.{◌≡◌, ℕ, zero, suc, ◌+◌, ◌-◌, ◌/◌, ◌<◌, Bool, true, false, cond, not, ◌&&◌, ◌||◌, List, [], ◌∷◌, ◌++◌, map, length, take, drop, is_some, Some, None, Option, ◌==◌}
+use Rattle.std.specs.Prelude.{◌≡◌, ℕ, zero, suc, ◌+◌, ◌-◌, ◌*◌, ◌/◌, ◌<◌, Bool, true, false, cond, not, ◌&&◌, ◌||◌, List, [], ◌∷◌, ◌++◌, map, length, take, drop, is_some, Some, None, Option, ◌==◌}
 use Rattle.std.specs.List.{ContainsAt as Has}
 use Rattle.device.specs.Disk.{Bytes, Cell, possibilities, Told, good, refused}
 use Rattle.device.specs.Plans.{Disks, side}
@@ -14,7 +14,7 @@ use Rattle.store.specs.Refusals.{StoreRefusal, because}
 use Rattle.store.specs.Steps.{Contents}
 use Rattle.recovery.specs.Readings.{image, found}
 use Rattle.history.specs.Faults.{Fault, store_fault}
-use Rattle.history.specs.Steps.{sizes, both_on, Memory, closed, serving, invalid, Mode, plain, merging, Ground, status, spot}
+use Rattle.history.specs.Steps.{sizes, both_on, Memory, closed, serving, invalid, Mode, plain, merging, Ground, Figures, spot}
 use Rattle.history.specs.History.{Situation, Call, ask_status, ask_merge, read_origin, read_view, write_origin, write_snapshot, write_merging, flush_all, begin_merge, step_merge, leave_merge, reopen, nothing, contents, became_invalid, merged, figures, Answer, refusal, End, completed, under_way, not_done, ending, History, begun, next_call, cut, rejoin}
 
 -- Two plain disks, origin and view. The diverged chunks, those with a copy, stand in the order in which they parted. The view is void
@@ -235,9 +235,36 @@ ground_of m = record { size = m.plain.size; stopped = is_some m.pending }
 abbrev pub memory_of : Machine → Memory
 memory_of m = cond m.opened (cond m.plain.void invalid (serving m.plain.chunk (table_of m.plain))) closed
 
+-- the state's number while the pair is open: 1 active, 2 merging
+abbrev pub state_while_open : Mode → ℕ
+state_while_open plain = 1
+state_while_open merging = 2
+
+-- the sectors of the header and of the areas that n exceptions take, chunks of c sectors
+abbrev pub metadata_of : ℕ → ℕ → ℕ
+metadata_of c zero = 2 * c
+metadata_of c (suc n) = (2 + n / per_area c) * c
+
+-- a state alone, all else 0
+abbrev pub state_alone : ℕ → Figures
+state_alone n = record { state = n; exceptions = 0; allocated = 0; metadata = 0 }
+
+-- the figures of an open pair: how many chunks have diverged, and where the next one would go
+abbrev pub figures_while_open : Plain → Mode → Figures
+figures_while_open p mode =
+    let c = sectors p.chunk in
+    let n = length p.diverged in
+    record { state = state_while_open mode; exceptions = n; allocated = place_of (per_area c) n * c; metadata = metadata_of c n }
+
+-- the figures: 4 stopped while a call is under way, 0 closed, 3 invalid where the view is void
+abbrev pub figures_by : Machine → Figures
+figures_by m =
+    cond (is_some m.pending) (state_alone 4)
+    (cond m.opened (cond m.plain.void (state_alone 3) (figures_while_open m.plain m.mode)) (state_alone 0))
+
 -- what a call that no test refuses is to answer
 abbrev pub reply : Machine → Call → Answer
-reply m ask_status = good (figures (status m.mode (ground_of m) (memory_of m)))
+reply m ask_status = good (figures (figures_by m))
 reply m ask_merge = good nothing
 reply m (read_origin s n) = good (contents (m.plain.origin s).latest)
 reply m (read_view s n) = good (contents (m.plain.view s).latest)
