@@ -6,9 +6,10 @@ use Rattle.std.proofs.lemmas.Bool.{cases_Bool, both_ways, and_parts, and_right}
 use Rattle.device.specs.Disk.{Bytes, possibilities}
 use Rattle.device.specs.Plans.{Disks}
 use Rattle.recovery.specs.Readings.{image}
+use Rattle.history.specs.Faults.{Fault}
 use Rattle.history.specs.Steps.{both_on, ground}
-use Rattle.history.specs.History.{Situation, Call, ask_status, begin_merge, leave_merge, Answer, Happens, refusal, PowerCut, Rejoined, End, completed, under_way, not_done, ending, History, begun, next_call, cut, rejoin}
-use Rattle.history.specs.Machine.{Plain, Machine, only, diverged_at, performed, next, fresh, broken_off, cut_short, Cuts, Follows, Agrees, Simulates}
+use Rattle.history.specs.History.{Situation, Call, ask_status, begin_merge, leave_merge, Answer, Happens, refusal, PowerCut, Rejoined, RefusedMaking, End, completed, under_way, not_done, ending, History, begun, next_call, cut, rejoin, making_refused}
+use Rattle.history.specs.Machine.{Plain, Machine, only, diverged_at, performed, next, fresh, broken_off, cut_short, Cuts, Follows, Agrees, Simulates, making_expected}
 use Rattle.history.specs.Promise.{shown, shown_by, apart, kind, is_flush, completes, begins, Last, Candidate, Owed, found_full, FoundFull, RefusedInvalid}
 use Rattle.history.proofs.Invariant.{On, Inv, single_is, Shares}
 use Rattle.history.proofs.Refusing.{still, Reached, away, quiet, inside, reached}
@@ -213,7 +214,11 @@ CutSteps = (m : Machine) (w after : Situation) → Inv m w → PowerCut w after 
 abbrev pub AgainSteps : Type 0
 AgainSteps = (m : Machine) (w after : Situation) → Inv m w → Rejoined w after → Inv (fresh m) after
 
-module _ (m₀ : Machine) (start : Situation) (step : CallSteps) (cut_step : CutSteps) (again : AgainSteps) (begins_on : On m₀ start) (begins_valid : m₀.plain.void ≡ false) (begins_as : (s : ℕ) → m₀.plain.view s ≡ only (image start.disks.origin s)) where
+-- a making that is refused is refused as expected, and changes nothing
+abbrev pub MakingSteps : Type 0
+MakingSteps = (m : Machine) (w after : Situation) (c : ℕ) (f : Fault) → Inv m w → RefusedMaking w c f after → (making_expected m c ≡ Some f) × (after ≡ w)
+
+module _ (m₀ : Machine) (start : Situation) (step : CallSteps) (cut_step : CutSteps) (again : AgainSteps) (unmade : MakingSteps) (begins_on : On m₀ start) (begins_valid : m₀.plain.void ≡ false) (begins_as : (s : ℕ) → m₀.plain.view s ≡ only (image start.disks.origin s)) where
   along_call : {w : Situation} (h : History start w) (c : Call) (a : Answer) (after : Situation) (x : Happens w c a after) → Along m₀ h → Along m₀ (next_call h c a after x)
   along_call {w} h c a after x r =
       let m = r.machine in
@@ -246,9 +251,21 @@ module _ (m₀ : Machine) (start : Situation) (step : CallSteps) (cut_step : Cut
         kept = record { says = λ came has. record { full = (k.says came has).full; candidate = (k.says came has).candidate }; stays = k.stays; owed = k.owed; invalid = k.invalid };
       }
 
+  along_making : {w : Situation} (h : History start w) (c : ℕ) (f : Fault) (after : Situation) (x : RefusedMaking w c f after) → Along m₀ h → Along m₀ (making_refused h c f after x)
+  along_making {w} h c f after x r =
+      let k = r.kept in
+      let y = unmade r.machine w after c f r.inv x in
+      record {
+        machine = r.machine;
+        simulates = (r.simulates, y.0, y.1);
+        inv = subst (Inv r.machine) (sym y.1) r.inv;
+        kept = record { says = λ came has. record { full = (k.says came has).full; candidate = (k.says came has).candidate }; stays = k.stays; owed = k.owed; invalid = k.invalid };
+      }
+
   -- every history
   pub all_along : {w : Situation} (h : History start w) → Along m₀ h
   all_along begun = record { machine = m₀; simulates = refl; inv = inl begins_on; kept = kept_begun m₀ start begins_on begins_valid begins_as }
   all_along (next_call h c a after x) = along_call h c a after x (all_along h)
   all_along (cut h after x) = along_cut h after x (all_along h)
   all_along (rejoin h after x) = along_rejoin h after x (all_along h)
+  all_along (making_refused h c f after x) = along_making h c f after x (all_along h)

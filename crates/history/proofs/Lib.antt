@@ -36,4 +36,5 @@ pub mod Partly
 pub mod Backs
 pub mod Droppings
 pub mod Merging
+pub mod Makings
 pub mod Safe

@@ -11,7 +11,7 @@ use Rattle.history.specs.Promise.{Owed, ViewKeeps, MergeCompletes, Reopens, Open
 use Rattle.history.proofs.Invariant.{On, Inv, single_is}
 use Rattle.history.proofs.Refusing.{test_passed}
 use Rattle.history.proofs.Voids.{T_is, served, tests, valid_by, void_unserved}
-use Rattle.history.proofs.Histories.{idle_has, while_idle, Along, CallSteps, CutSteps, AgainSteps, all_along}
+use Rattle.history.proofs.Histories.{idle_has, while_idle, Along, CallSteps, CutSteps, AgainSteps, MakingSteps, all_along}
 
 -- GOOD ANSWERS
 
@@ -57,12 +57,12 @@ opens m idle shut =
     ap (λ o. first (work_length work_bytes ∷ test (is_some o) (pair_fault 5) ∷ still_closed (memory_of m) ∷ [])) idle
     ∙ ap (λ k. first (still_closed k ∷ [])) shut
 
-module _ (m₀ : Machine) (start : Situation) (step : CallSteps) (cut_step : CutSteps) (again : AgainSteps)
+module _ (m₀ : Machine) (start : Situation) (step : CallSteps) (cut_step : CutSteps) (again : AgainSteps) (unmade : MakingSteps)
     (merge_flushes : (w after : Situation) (k r : ℕ) → Happens w (step_merge k) (good (merged r 0)) after → 0 < r → (s : ℕ) → (after.disks.origin.cells s).older ≡ [])
     (begins_on : On m₀ start) (begins_valid : m₀.plain.void ≡ false) (begins_as : (s : ℕ) → m₀.plain.view s ≡ only (image start.disks.origin s))
   where
     at_end : {w : Situation} (h : History start w) → Along m₀ h
-    at_end h = all_along m₀ start step cut_step again begins_on begins_valid begins_as h
+    at_end h = all_along m₀ start step cut_step again unmade begins_on begins_valid begins_as h
 
     -- what a read of the view saw
     seen : {w after : Situation} (h : History start w) (s n : ℕ) (b : Bytes) → Happens w (read_view s n) (good (contents b)) after → Seen (at_end h).machine s b

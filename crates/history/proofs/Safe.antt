@@ -4,6 +4,7 @@ use Rattle.history.specs.Machine.{made}
 use Rattle.history.specs.Promise.{CrashSafe, AnswersAreTheMachines}
 use Rattle.history.proofs.Cuts.{cut_step, again}
 use Rattle.history.proofs.Histories.{CallSteps}
+use Rattle.history.proofs.Makings.{unmade}
 use Rattle.history.proofs.Merging.{core_step_merge, merge_flushes}
 use Rattle.history.proofs.OriginWrites.{core_write_origin}
 use Rattle.history.proofs.Promised.{protected}
@@ -20,7 +21,7 @@ every_call = step core_read_origin core_read_view core_write_origin core_write_s
 pub crash_safe : CrashSafe
 crash_safe c d start origin cow was_made =
     let x = starts c d start origin cow was_made in
-    (x.0, x.1, protected (made x.0 start.disks) start every_call (λ m w after inv cut. cut_step m w after cut inv) again merge_flushes x.2 refl (λ s. refl), x.3)
+    (x.0, x.1, protected (made x.0 start.disks) start every_call (λ m w after inv cut. cut_step m w after cut inv) again unmade merge_flushes x.2 refl (λ s. refl), x.3)
 
 pub machine_answers : AnswersAreTheMachines
 machine_answers c d start w h origin cow was_made =

@@ -99,7 +99,7 @@ abbrev well : Memory → Outcome (Unit {0})
 well m = record { answer = good tt; memory = m }
 
 -- the origin is flushed, then the store is made
-abbrev steps : ChunkSize → Moves (Unit {0})
+abbrev pub steps : ChunkSize → Moves (Unit {0})
 steps size = then (flush origin) (λ _. at_side cow (making (sectors size)))
 
 -- and then the empty list is remembered

@@ -37,7 +37,7 @@ off_ground : {m : Machine} {w : Situation} → Off m w → ground w.disks ≡ st
 off_ground off i = record { size = off.sectors i; stopped = not (off.gone i) }
 
 -- what goes by that, and not by what is remembered while a device is gone
-alike : {m : Machine} {w : Situation} {B : Type 0} (f : Ground → Memory → Mode → B) → ((z : Sizes) (x y : Memory) (mode : Mode) → f (stopped_at z) x mode ≡ f (stopped_at z) y mode) → Inv m w → f (ground w.disks) w.memory w.mode ≡ f (ground_of m) (memory_of m) m.mode
+pub alike : {m : Machine} {w : Situation} {B : Type 0} (f : Ground → Memory → Mode → B) → ((z : Sizes) (x y : Memory) (mode : Mode) → f (stopped_at z) x mode ≡ f (stopped_at z) y mode) → Inv m w → f (ground w.disks) w.memory w.mode ≡ f (ground_of m) (memory_of m) m.mode
 alike f same (inl on) = λ i. f (on_ground on i) (on.memory i) (on.mode i)
 alike {m} {w} f same (inr off) =
     (λ i. f (off_ground off i) w.memory (off.mode i)) ∙ same m.plain.size w.memory (memory_of m) m.mode

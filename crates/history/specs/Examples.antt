@@ -16,8 +16,8 @@ use Rattle.store.specs.Steps.{Contents, shape_of}
 use Rattle.recovery.specs.Readings.{image, scanned, found}
 use Rattle.history.specs.Faults.{Fault, fault, store_up, passed_up}
 use Rattle.history.specs.Steps.{Memory, closed, serving, invalid, Mode, plain, merging, ground, Outcome, make, open_pair, origin_read, view_read, origin_write, snapshot_write, status, figures_of, merge_step, Merged}
-use Rattle.history.specs.History.{Situation, Call, ask_status, ask_merge, read_origin, read_view, write_origin, write_snapshot, write_merging, flush_all, begin_merge, step_merge, leave_merge, reopen, nothing, contents, became_invalid, merged, figures, Answer, offers, Result, plan_of, Happens, joined, Made, PowerCut, History, begun, next_call, cut, rejoin, End, completed, under_way, not_done, ending}
-use Rattle.history.specs.Machine.{Plain, Machine, only, diverged_at, table_of, with_origin, with_view, made, next, fresh as rejoined, expected, Follows, told as as_expected, broken_off, cut_short, finding, reads_at}
+use Rattle.history.specs.History.{Situation, Call, ask_status, ask_merge, read_origin, read_view, write_origin, write_snapshot, write_merging, flush_all, begin_merge, step_merge, leave_merge, reopen, nothing, contents, became_invalid, merged, figures, Answer, offers, Result, plan_of, Happens, joined, Made, PowerCut, History, begun, next_call, cut, rejoin, making_refused, RefusedMaking, End, completed, under_way, not_done, ending}
+use Rattle.history.specs.Machine.{Plain, Machine, only, diverged_at, table_of, with_origin, with_view, made, next, fresh as rejoined, expected, making_expected, Follows, told as as_expected, broken_off, cut_short, finding, reads_at}
 use Rattle.history.specs.Promise.{shown, kind, of_snapshot, Candidate, Owed, found_full, is_invalid_refusal}
 
 -- RUNS
@@ -1391,6 +1391,39 @@ h₄ = next_call h₃ an_opening ok v₄ opening_happens
 -- or the pair is put together anew, without a cut
 abbrev h₅ : History v₀ v₃
 h₅ = rejoin h₂ v₃ refl
+
+-- making again is refused: on the open pair; on the fresh one for the size, and for the shape of the devices
+abbrev refuses_making : Situation → ℕ → ℕ → Type 0
+refuses_making w c n = RefusedMaking w c (fault n 3 0 0 0) w
+
+pub making_open : refuses_making v₂ 1 4
+making_open = record { offered = refl; ran = record { fates = []; comes = refl }; pair = refl; told = refl }
+
+pub making_size : refuses_making v₃ 3 8
+making_size = record { offered = refl; ran = record { fates = []; comes = refl }; pair = refl; told = refl }
+
+pub making_shape : refuses_making v₃ 2 9
+making_shape = record { offered = refl; ran = record { fates = []; comes = refl }; pair = refl; told = refl }
+
+-- and the history goes on
+pub history_with_makings : History v₀ v₃
+history_with_makings = making_refused (making_refused (cut (making_refused h₂ 1 _ v₂ making_open) v₃ cut_happens) 3 _ v₃ making_size) 2 _ v₃ making_shape
+
+-- the machine expects the same
+pub making_expected_open : making_expected (made One w₀.disks) 3 ≡ Some (fault 4 3 0 0 0)
+making_expected_open = refl
+
+pub making_expected_size : making_expected (rejoined (made One w₀.disks)) 3 ≡ Some (fault 8 3 0 0 0)
+making_expected_size = refl
+
+pub making_expected_shape : making_expected (rejoined (made One w₀.disks)) 2 ≡ Some (fault 9 3 0 0 0)
+making_expected_shape = refl
+
+pub making_expected_stopped : making_expected (rejoined waiting) 2 ≡ Some (fault 5 3 0 0 0)
+making_expected_stopped = refl
+
+pub making_expected_good : making_expected (rejoined (made One w₀.disks)) 1 ≡ None
+making_expected_good = refl
 
 -- a pair offers no merge step, and a merging snapshot no snapshot write
 pub no_step : offers plain a_step ≡ false

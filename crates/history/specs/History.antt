@@ -128,6 +128,17 @@ refusal g m mode (step_merge w) = step_tests g m w
 refusal g m mode leave_merge = None
 refusal g m mode (reopen w) = open_tests g m w
 
+-- how a call ended: completed, under way as a device went, or not done
+pub data End : Type 0 where
+  completed : End
+  under_way : End
+  not_done : End
+
+-- how a call ended, by its answer
+abbrev pub ending : Answer → End
+ending (good r) = completed
+ending (refused f) = cond (f.number == 3) under_way not_done
+
 -- in a situation a call may answer a and leave another: it is offered, and some run of its plan ends so
 pub record Happens (w : Situation) (c : Call) (a : Answer) (after : Situation) : Type 0 where
   pub offered : T (offers w.mode c)
@@ -152,20 +163,17 @@ pub record PowerCut (before after : Situation) : Type 0 where
 abbrev pub Rejoined : Situation → Situation → Type 0
 Rejoined before after = after ≡ joined before.disks
 
+-- a pair, open or closed, refuses a making with chunks of c sectors, other than because a device goes
+pub record RefusedMaking (w : Situation) (c : ℕ) (f : Fault) (after : Situation) : Type 0 where
+  pub offered : w.mode ≡ plain
+  pub ran : Runs both (make (ground w.disks) w.memory c) w.disks (record { answer = refused f; memory = after.memory }) after.disks
+  pub pair : after.mode ≡ plain
+  pub told : ending (refused f) ≡ not_done
+
 -- what may happen from a situation on
 pub data History (start : Situation) : Situation → Type 0 where
   begun : History start start
   next_call : {w : Situation} (h : History start w) (c : Call) (a : Answer) (after : Situation) → Happens w c a after → History start after
   cut : {w : Situation} (h : History start w) (after : Situation) → PowerCut w after → History start after
   rejoin : {w : Situation} (h : History start w) (after : Situation) → Rejoined w after → History start after
-
--- how a call ended: completed, under way as a device went, or not done
-pub data End : Type 0 where
-  completed : End
-  under_way : End
-  not_done : End
-
--- how a call ended, by its answer
-abbrev pub ending : Answer → End
-ending (good r) = completed
-ending (refused f) = cond (f.number == 3) under_way not_done
+  making_refused : {w : Situation} (h : History start w) (c : ℕ) (f : Fault) (after : Situation) → RefusedMaking w c f after → History start after

@@ -14,8 +14,8 @@ use Rattle.store.specs.Refusals.{StoreRefusal, because}
 use Rattle.store.specs.Steps.{Contents}
 use Rattle.recovery.specs.Readings.{image, found}
 use Rattle.history.specs.Faults.{Fault, store_fault}
-use Rattle.history.specs.Steps.{sizes, both_on, Memory, closed, serving, invalid, Mode, plain, merging, Ground, Figures, spot}
-use Rattle.history.specs.History.{Situation, Call, ask_status, ask_merge, read_origin, read_view, write_origin, write_snapshot, write_merging, flush_all, begin_merge, step_merge, leave_merge, reopen, nothing, contents, became_invalid, merged, figures, Answer, refusal, End, completed, under_way, not_done, ending, History, begun, next_call, cut, rejoin}
+use Rattle.history.specs.Steps.{sizes, both_on, Memory, closed, serving, invalid, Mode, plain, merging, Ground, Figures, make_refusal, spot}
+use Rattle.history.specs.History.{Situation, Call, ask_status, ask_merge, read_origin, read_view, write_origin, write_snapshot, write_merging, flush_all, begin_merge, step_merge, leave_merge, reopen, nothing, contents, became_invalid, merged, figures, Answer, refusal, End, completed, under_way, not_done, ending, History, begun, next_call, cut, rejoin, making_refused}
 
 -- Two plain disks, origin and view. The diverged chunks, those with a copy, stand in the order in which they parted. The view is void
 -- once an origin write found no room for a copy.
@@ -287,6 +287,10 @@ unless_refused (Some f) a = refused f
 abbrev pub expected : Machine → Call → Answer
 expected m c = unless_refused (refusal (ground_of m) (memory_of m) m.mode c) (reply m c)
 
+-- what a making is to be refused with, where it is
+abbrev pub making_expected : Machine → ℕ → Option Fault
+making_expected m c = make_refusal (ground_of m) (memory_of m) c
+
 -- an answer is the expected one, unless a device went inside the call
 pub data Follows (m : Machine) (c : Call) (a : Answer) : Type 0 where
   went : ending a ≡ under_way → Follows m c a
@@ -371,3 +375,4 @@ Simulates m₀ (next_call h c a after x) m =
     × (both_on after.disks ≡ true → m.pending ≡ None)
 Simulates m₀ (cut h after x) m = (p : Machine) × Simulates m₀ h p × Cuts p m × Agrees m.plain after.disks
 Simulates m₀ (rejoin h after x) m = (p : Machine) × Simulates m₀ h p × (m ≡ fresh p)
+Simulates m₀ (making_refused {w} h c f after x) m = Simulates m₀ h m × (making_expected m c ≡ Some f) × (after ≡ w)

@@ -10,7 +10,7 @@ use Rattle.store.specs.Steps.{Contents}
 use Rattle.recovery.specs.Readings.{image}
 use Rattle.history.specs.Faults.{store_fault}
 use Rattle.history.specs.Steps.{both_on, work_bytes, Memory, closed, serving, invalid, ground, next_free}
-use Rattle.history.specs.History.{Situation, Call, ask_status, ask_merge, read_origin, read_view, write_origin, write_snapshot, write_merging, flush_all, begin_merge, step_merge, leave_merge, reopen, Reply, nothing, contents, merged, Answer, Happens, Made, PowerCut, joined, End, completed, under_way, not_done, ending, History, begun, next_call, cut, rejoin}
+use Rattle.history.specs.History.{Situation, Call, ask_status, ask_merge, read_origin, read_view, write_origin, write_snapshot, write_merging, flush_all, begin_merge, step_merge, leave_merge, reopen, Reply, nothing, contents, merged, Answer, Happens, Made, PowerCut, joined, End, completed, under_way, not_done, ending, History, begun, next_call, cut, rejoin, making_refused}
 use Rattle.history.specs.Machine.{Machine, made, finding, reads_at, Simulates}
 
 -- WHAT IS SHOWN
@@ -102,6 +102,7 @@ Candidate (next_call h c a after x) s b =
     cond (is_flush (kind c) && completes (ending a)) (shown after.disks s ≡ Some b) (Perhaps (kind c) (ending a) s (λ y. b ≡ y) (Candidate h s b))
 Candidate (cut h after x) s b = shown after.disks s ≡ Some b
 Candidate (rejoin h after x) s b = Candidate h s b
+Candidate (making_refused h c f after x) s b = Candidate h s b
 
 -- b is what sector s of the view is to show: the last write accepted since the last power cut; else what the cut left, a candidate then;
 -- and from the making on what the origin held
@@ -110,6 +111,7 @@ Owed {start} begun s b = image start.disks.origin s ≡ b
 Owed (next_call h c a after x) s b = Last (kind c) (ending a) s (λ y. b ≡ y) (Owed h s b)
 Owed (cut h after x) s b = (shown after.disks s ≡ Some b) × Candidate h s b
 Owed (rejoin h after x) s b = Owed h s b
+Owed (making_refused h c f after x) s b = Owed h s b
 
 -- every read of the view that is answered shows what is owed
 abbrev pub ViewKeeps : Situation → Type 0
@@ -150,6 +152,7 @@ SomeCall so begun = ⊥
 SomeCall so (next_call {w} h c a after x) = T (so w c a) ⊎ SomeCall so h
 SomeCall so (cut h after x) = SomeCall so h
 SomeCall so (rejoin h after x) = SomeCall so h
+SomeCall so (making_refused h c f after x) = SomeCall so h
 
 -- some origin write of a history, good or under way, found the store full
 abbrev pub FoundFull : {start w : Situation} → History start w → Type 0

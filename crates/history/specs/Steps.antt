@@ -145,6 +145,15 @@ make_sized g m (Some size) =
 abbrev pub make_tests : Ground → Memory → Option Fault
 make_tests g m = first (not_stopped g ∷ still_closed m ∷ [])
 
+-- the test of a size of chunks: it is one of the five, and the devices fit it
+abbrev pub size_test : Ground → Option ChunkSize → Option Fault
+size_test g None = Some (pair_fault 8)
+size_test g (Some size) = shape g (sectors size)
+
+-- the refusal of a making before it reaches a device
+abbrev pub make_refusal : Ground → Memory → ℕ → Option Fault
+make_refusal g m c = first (not_stopped g ∷ still_closed m ∷ size_test g (chunk_size c) ∷ [])
+
 -- making, with chunks of c sectors: 1, 2, 4, 8 or 16
 abbrev pub make : Ground → Memory → ℕ → Plan Side (Outcome (Unit {0}))
 make g m c = guarded m (make_tests g m) (make_sized g m (chunk_size c))
