@@ -135,7 +135,10 @@ broken_all p (write_origin s b w) =
 broken_all p (write_snapshot s b w) =
     cond_both (diverged_at p s) _ _ (AllByRecursion (Comes p (writes_view s b)))
     (λ _. (onto_view p s b (perhaps b) (perhaps_gains b) p (comes_same p _), tt))
+    (λ _.
+    cond_both (can_diverge p) _ _ (AllByRecursion (Comes p (writes_view s b)))
     (λ _. (comes_same p _, (onto_view p s b (perhaps b) (perhaps_gains b) (diverge p s) (comes_diverged p _ s), tt)))
+    (λ _. (comes_same p _, tt)))
 broken_all p (write_merging s b) = (onto_both p s b (perhaps b) (perhaps_gains b), tt)
 broken_all p (step_merge w) = All-map (Comes p uses_snapshot) (λ j. merged_partly (run_length p) j p) (up_to (run_length p)) (all_of _ (λ j. comes_merged p _ (run_length p) j) (up_to (run_length p)))
 broken_all p c = (comes_same p _, tt)

@@ -47,18 +47,19 @@ module _ (p : Plain) (d : Disks) (s : ℕ) (b : Bytes) (k : ℕ) (valid : p.void
       (copy_puts tt p valid d (serving p.chunk (table_of p)) up s x b long is o e (subst (λ q. Runs both (after (serving p.chunk (table_of p)) q (λ _. giving (serving p.chunk (table_of p)) tt)) d o e) (at_copy p.size p.chunk (table_of p) (up.stands valid).listed d up.agrees.sectors (chunk_of p s) x is (only_call (writes (in_copy (sectors p.chunk) x s) b))) r)))
 
   module _ (out : diverged_at p s ≡ false) where
-    two_ways : broken_off p (write_snapshot s b k) ≡ p ∷ on_view (perhaps b) s (diverge p s) ∷ []
-    two_ways = cond-false (diverged_at p s) _ _ out
+    two_ways : can_diverge p ≡ true → broken_off p (write_snapshot s b k) ≡ p ∷ on_view (perhaps b) s (diverge p s) ∷ []
+    two_ways can = cond-false (diverged_at p s) _ _ out ∙ cond-true (can_diverge p) _ _ can
 
     -- the chunk is copied first
     with_room : (place : ℕ) → room entries_at_most (sectors p.chunk) (p.size.cow / sectors p.chunk) (table_of p) ≡ Some place → Runs both (after (serving p.chunk (table_of p)) (copying (ground d) p.chunk (table_of p) (chunk_of p s) place) (λ more. copy_put (ground d) p.chunk more s b place)) d o e → Wanted
     with_room place free r =
+        let can = place_can p place free in
         let same = diverge_is p s place out free in
         let there : lookup (table_of (parted p s)) (chunk_of p s) ≡ Some place = parted_here p s place out free s refl in
-        let one : Has (broken_off p (write_snapshot s b k)) p = subst (λ l. Has l p) (sym two_ways) (first_of p _) in
-        let two : Has (broken_off p (write_snapshot s b k)) (on_view (perhaps b) s (parted p s)) = subst (λ l. Has l (on_view (perhaps b) s (parted p s))) (sym two_ways) (subst (λ y. Has (p ∷ on_view (perhaps b) s y ∷ []) (on_view (perhaps b) s (parted p s))) (sym same) (second_of p _)) in
+        let one : Has (broken_off p (write_snapshot s b k)) p = subst (λ l. Has l p) (sym (two_ways can)) (first_of p _) in
+        let two : Has (broken_off p (write_snapshot s b k)) (on_view (perhaps b) s (parted p s)) = subst (λ l. Has l (on_view (perhaps b) s (parted p s))) (sym (two_ways can)) (subst (λ y. Has (p ∷ on_view (perhaps b) s y ∷ []) (on_view (perhaps b) s (parted p s))) (sym same) (second_of p _)) in
         let mem = serving p.chunk (table_of (parted p s)) in
-        wanted (or_right (diverged_at p s) _ (place_can p place free))
+        wanted (or_right (diverged_at p s) _ can)
         (turn_ends p d up e (λ _. nothing) o (wholes_stay r up.whole) (sizes_stay r) (write_snapshot s b k) tt (serving p.chunk (table_of p)) mem (parted p s) (on_view (added b) s (parted p s)) (on_view (perhaps b) s (parted p s))
         (table_of (parted p s)) (copying (ground d) p.chunk (table_of p) (chunk_of p s) place) (λ more. copy_put (ground d) p.chunk more s b place)
         (ap (on_view (added b) s) same) one two

@@ -1216,6 +1216,19 @@ write_broken_view = refl
 pub write_broken_again : map (λ p. origin_list p 1) (broken_off (after (to_origin 1 99 ∷ [])).plain (to_origin 1 98)) ≡ (full 98 ∷ full 101 ∷ full 99 ∷ []) ∷ []
 write_broken_again = refl
 
+-- a snapshot write under way: nothing done, or copied and perhaps written; in a full store nothing, outside the diverged chunks
+abbrev full_plain : Plain
+full_plain = (good_calls (made One (start 1 6 3).disks) (to_origin 0 50 ∷ [])).plain
+
+pub view_broken_diverged : map (λ p. p.diverged) (broken_off (after []).plain (to_view 1 99)) ≡ [] ∷ (1 ∷ []) ∷ []
+view_broken_diverged = refl
+
+pub view_broken_full : map (λ p. p.diverged) (broken_off full_plain (to_view 1 99)) ≡ (0 ∷ []) ∷ []
+view_broken_full = refl
+
+pub view_broken_view : map (λ p. view_list p 0) (broken_off full_plain (to_view 0 99)) ≡ (full 99 ∷ full 100 ∷ []) ∷ []
+view_broken_view = refl
+
 -- the machine keeps the call under way, refuses with 5, and at the cut takes what it may have come to
 abbrev waiting : Machine
 waiting = next (after []) (to_origin 1 99) under_way

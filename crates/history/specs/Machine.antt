@@ -312,7 +312,7 @@ broken_off p (read_view s n) = p ∷ []
 broken_off p (write_origin s b w) =
     cond (p.void || diverged_at p s) (on_origin (perhaps b) s p ∷ []) (p ∷ on_origin (perhaps b) s (ready p s) ∷ [])
 broken_off p (write_snapshot s b w) =
-    cond (diverged_at p s) (on_view (perhaps b) s p ∷ []) (p ∷ on_view (perhaps b) s (diverge p s) ∷ [])
+    cond (diverged_at p s) (on_view (perhaps b) s p ∷ []) (cond (can_diverge p) (p ∷ on_view (perhaps b) s (diverge p s) ∷ []) (p ∷ []))
 broken_off p (write_merging s b) = on_both (perhaps b) s p ∷ []
 broken_off p flush_all = p ∷ []
 broken_off p begin_merge = p ∷ []
