@@ -120,7 +120,7 @@ pub idle_has : {w : Situation} (m : Machine) → On m w → Has (cut_short m.pla
 idle_has m on = subst (λ o. Has (cut_short m.plain o) m.plain) (sym on.idle) (has_push [] m.plain)
 
 -- a still call leaves all
-still_same : (c : Call) → still c ≡ true → (kind c ≡ apart) × ((p : Plain) → performed p c ≡ p)
+pub still_same : (c : Call) → still c ≡ true → (kind c ≡ apart) × ((p : Plain) → performed p c ≡ p)
 still_same ask_status is = (refl, λ p. refl)
 still_same begin_merge is = (refl, λ p. refl)
 still_same leave_merge is = (refl, λ p. refl)

@@ -6,12 +6,12 @@ use Rattle.recovery.specs.Readings.{image}
 use Rattle.history.specs.Faults.{pair_fault}
 use Rattle.history.specs.Steps.{both_on, work_bytes, closed, test, first, work_length, still_closed}
 use Rattle.history.specs.History.{Situation, Call, read_view, step_merge, reopen, contents, merged, Answer, Happens, joined, PowerCut, refusal, under_way, ending, History}
-use Rattle.history.specs.Machine.{Machine, only, has_chunk, chunk_of, diverged_at, run_length, settled_cell, performed, next, memory_of, ground_of, reply, unless_refused, Follows, went, told}
-use Rattle.history.specs.Promise.{Owed, ViewKeeps, MergeCompletes, Reopens, OpensExactly, StaysInvalid, Protected}
+use Rattle.history.specs.Machine.{Plain, Machine, only, has_chunk, chunk_of, diverged_at, run_length, settled_cell, performed, next, memory_of, ground_of, reply, unless_refused, Follows, went, told}
+use Rattle.history.specs.Promise.{Owed, ViewKeeps, MergeCompletes, Reopens, OpensExactly, kind, found_full, full_by_machine, FullByMachine, StaysInvalid, Protected}
 use Rattle.history.proofs.Invariant.{On, Inv, single_is}
-use Rattle.history.proofs.Refusing.{test_passed}
-use Rattle.history.proofs.Voids.{T_is, served, tests, valid_by, void_unserved}
-use Rattle.history.proofs.Histories.{idle_has, while_idle, Along, CallSteps, CutSteps, AgainSteps, MakingSteps, all_along}
+use Rattle.history.proofs.Refusing.{test_passed, Reached, away, quiet, inside, reached}
+use Rattle.history.proofs.Voids.{T_is, served, tests, valid_by, void_unserved, full_alike, not_full}
+use Rattle.history.proofs.Histories.{idle_has, while_idle, still_same, Along, CallSteps, CutSteps, AgainSteps, MakingSteps, all_along}
 
 -- GOOD ANSWERS
 
@@ -117,6 +117,17 @@ module _ (m₀ : Machine) (start : Situation) (step : CallSteps) (cut_step : Cut
     exactly w after h a as_new runs x stay =
         ((at_end h).machine, (at_end h).simulates, ⊎_elim (λ y. absurd (both_ways _ y.0 (T_is _ stay))) (λ y. y) (opened_so w after h a as_new runs x))
 
+    full : FullByMachine m₀ start
+    full w after h c a x = ((at_end h).machine, (at_end h).simulates, go (reached x))
+      where
+        p : Plain
+        p = (at_end h).machine.plain
+
+        go : Reached w c a → found_full w (kind c) (ending a) ≡ full_by_machine p (kind c) (ending a)
+        go (away is) = subst (λ e. found_full w (kind c) e ≡ full_by_machine p (kind c) e) (sym is) (not_full p w (kind c))
+        go (quiet none is) = subst (λ k. found_full w k (ending a) ≡ full_by_machine p k (ending a)) (sym (still_same c none).0) refl
+        go (inside passes runs) = full_alike (at_end h).machine w c (ending a) (⊎_elim (λ y. y) (λ y. absurd (both_ways _ y.gone runs)) (at_end h).inv) passes
+
     reopening : Reopens start
     reopening w after h a as_new runs x =
         let m = (at_end h).machine in
@@ -138,6 +149,7 @@ module _ (m₀ : Machine) (start : Situation) (step : CallSteps) (cut_step : Cut
       merge = merge_completes;
       reopens = reopening;
       exactly = exactly;
+      full = full;
       invalid_for_good = stays_invalid;
       along = λ h. ((at_end h).machine, (at_end h).simulates);
     }

@@ -1,15 +1,15 @@
 -- When a view is void: what the answers say of it, and what an origin write that finds the store full does.
-use Rattle.std.proofs.Common.{◌≡◌, ℕ, ◌/◌, Bool, true, false, cond, not, ◌||◌, T, eqb, is_some, Some, None, Option, sym, refl, ap, ◌∙◌, subst, ⊎_elim, arith}
+use Rattle.std.proofs.Common.{◌≡◌, ℕ, ◌/◌, Bool, true, false, cond, not, ◌&&◌, ◌||◌, T, eqb, is_some, Some, None, Option, sym, refl, ap, ◌∙◌, subst, ap₂, ⊎_elim, arith}
 use Rattle.std.specs.List.{AllByRecursion}
-use Rattle.std.proofs.lemmas.Bool.{cases_Bool, both_ways, not-true, not_from_false, and_parts, and_from, eqb-true, ne_eqb, cond-true, cond-false}
+use Rattle.std.proofs.lemmas.Bool.{cases_Bool, both_ways, and_from, eqb-true, ne_eqb, cond-true, cond-false}
 use Rattle.device.specs.Disk.{good, refused}
 use Rattle.layout.specs.Chunks.{sectors}
 use Rattle.exceptions.specs.Table.{entries_at_most, room}
 use Rattle.history.specs.Faults.{Fault, store_fault}
 use Rattle.history.specs.Steps.{closed, serving, invalid, is_closed, is_invalid, ground, not_invalid, opened, next_free}
 use Rattle.history.specs.History.{Situation, Call, ask_status, ask_merge, read_origin, read_view, write_origin, write_snapshot, write_merging, flush_all, begin_merge, step_merge, leave_merge, reopen, nothing, Reply, Answer, refusal, End, under_way, not_done}
-use Rattle.history.specs.Machine.{Machine, diverged_at, can_diverge, finds_full, table_of, chunk_of, ground_of, memory_of, reply, unless_refused, Follows, went, told}
-use Rattle.history.specs.Promise.{kind, of_snapshot, begins, no_place, found_full, is_invalid_refusal}
+use Rattle.history.specs.Machine.{Plain, Machine, diverged_at, can_diverge, finds_full, table_of, chunk_of, ground_of, memory_of, reply, unless_refused, Follows, went, told}
+use Rattle.history.specs.Promise.{Kind, writes_view, writes_origin, flushes, uses_snapshot, apart, kind, of_snapshot, begins, no_place, found_full, full_by_machine, is_invalid_refusal}
 use Rattle.history.proofs.Invariant.{On}
 use Rattle.history.proofs.Placing.{has_chunk_lookup, room_placed}
 use Rattle.history.proofs.Refusing.{tests_of, each_passed, test_passed, refusal_tells}
@@ -108,38 +108,64 @@ void_unserved m c r void x = tt
 -- FULL STORES
 
 module _ (m : Machine) (w : Situation) (s : ℕ) (on : On m w) where
-  no_room : can_diverge m.plain ≡ false → next_free (ground w.disks) m.plain.chunk (table_of m.plain) ≡ None
-  no_room full =
+  some_cond : (b : Bool) (k : ℕ) → is_some (cond b (Some k) None) ≡ b
+  some_cond true k = refl
+  some_cond false k = refl
+
+  -- there is a place where one more chunk may diverge
+  room_is : is_some (next_free (ground w.disks) m.plain.chunk (table_of m.plain)) ≡ can_diverge m.plain
+  room_is =
       let p = m.plain in
       let c = sectors p.chunk in
-      ap (λ z. room entries_at_most c (z.cow / c) (table_of p)) on.agrees.sectors
-      ∙ room_placed p.chunk entries_at_most (p.size.cow / c) p.diverged
-      ∙ cond-false _ _ _ full
+      ap (λ z. is_some (room entries_at_most c (z.cow / c) (table_of p))) on.agrees.sectors
+      ∙ ap is_some (room_placed p.chunk entries_at_most (p.size.cow / c) p.diverged)
+      ∙ some_cond (can_diverge p) _
 
-  full_place : m.opened ≡ true → finds_full m.plain s ≡ true → no_place w s w.memory ≡ true
-  full_place is_open full =
+  place_is : m.opened ≡ true → no_place w s w.memory ≡ finds_full m.plain s
+  place_is is_open =
       let p = m.plain in
-      let a = and_parts (not p.void) _ full in
-      let b = and_parts (not (diverged_at p s)) _ a.1 in
-      let serves : w.memory ≡ serving p.chunk (table_of p) = on.memory ∙ cond-true _ _ _ is_open ∙ cond-false _ _ _ (not-true _ a.0) in
-      ap (no_place w s) serves
-      ∙ and_from _ _
-      (not_from_false _ (sym (has_chunk_lookup _ 0 p.diverged (chunk_of p s)) ∙ not-true _ b.0))
-      (not_from_false _ (ap is_some (no_room (not-true _ b.1))))
+      let rest : Bool → Bool = λ v. not v && (not (diverged_at p s) && not (can_diverge p)) in
+      ap (no_place w s) (on.memory ∙ cond-true _ _ _ is_open)
+      ∙ ⊎_elim
+      (λ void. ap (no_place w s) (cond-true _ _ _ void) ∙ sym (ap rest void))
+      (λ valid.
+      ap (no_place w s) (cond-false _ _ _ valid)
+      ∙ ap₂ (λ x y. not x && not y) (sym (has_chunk_lookup _ 0 p.diverged (chunk_of p s))) room_is
+      ∙ sym (ap rest valid))
+      (cases_Bool p.void)
+
+-- a call that passed the tests finds the store full where the machine says so
+pub full_alike : (m : Machine) (w : Situation) (c : Call) (e : End) → On m w → refusal (ground w.disks) w.memory w.mode c ≡ None → found_full w (kind c) e ≡ full_by_machine m.plain (kind c) e
+full_alike m w ask_status e on pass = refl
+full_alike m w ask_merge e on pass = refl
+full_alike m w (read_origin s n) e on pass = refl
+full_alike m w (read_view s n) e on pass = refl
+full_alike m w (write_origin s b k) e on pass =
+    let shut = test_passed _ _ (each_passed (ground w.disks) w.memory w.mode (write_origin s b k) pass).1.1.1.0 in
+    ap (λ x. begins e && x) (place_is m w s on (remembers_open m (sym (ap is_closed on.memory) ∙ shut)))
+full_alike m w (write_snapshot s b k) e on pass = refl
+full_alike m w (write_merging s b) e on pass = refl
+full_alike m w flush_all e on pass = refl
+full_alike m w begin_merge e on pass = refl
+full_alike m w (step_merge k) e on pass = refl
+full_alike m w leave_merge e on pass = refl
+full_alike m w (reopen k) e on pass = refl
+
+-- one that is not done does not
+pub not_full : (p : Plain) (w : Situation) (k : Kind) → found_full w k not_done ≡ full_by_machine p k not_done
+not_full p w (writes_view s b) = refl
+not_full p w (writes_origin s) = refl
+not_full p w flushes = refl
+not_full p w uses_snapshot = refl
+not_full p w apart = refl
+
+spoils_is : (p : Plain) (k : Kind) (e : End) → begins e ≡ true → Spoils p k → full_by_machine p k e ≡ true
+spoils_is p (writes_view s b) e began full = absurd full
+spoils_is p (writes_origin s) e began full = and_from _ _ began full
+spoils_is p flushes e began full = absurd full
+spoils_is p uses_snapshot e began full = absurd full
+spoils_is p apart e began full = absurd full
 
 -- an origin write that finds the store full, on an open pair, finds no place
 pub spoils_full : (m : Machine) (w : Situation) (c : Call) (e : End) → On m w → refusal (ground w.disks) w.memory w.mode c ≡ None → begins e ≡ true → Spoils m.plain (kind c) → T (found_full w (kind c) e)
-spoils_full m w ask_status e on pass began full = absurd full
-spoils_full m w ask_merge e on pass began full = absurd full
-spoils_full m w (read_origin s n) e on pass began full = absurd full
-spoils_full m w (read_view s n) e on pass began full = absurd full
-spoils_full m w (write_origin s b k) e on pass began full =
-    let shut = test_passed _ _ (each_passed (ground w.disks) w.memory w.mode (write_origin s b k) pass).1.1.1.0 in
-    subst T (sym (and_from _ _ began (full_place m w s on (remembers_open m (sym (ap is_closed on.memory) ∙ shut)) full))) tt
-spoils_full m w (write_snapshot s b k) e on pass began full = absurd full
-spoils_full m w (write_merging s b) e on pass began full = absurd full
-spoils_full m w flush_all e on pass began full = absurd full
-spoils_full m w begin_merge e on pass began full = absurd full
-spoils_full m w (step_merge k) e on pass began full = absurd full
-spoils_full m w leave_merge e on pass began full = absurd full
-spoils_full m w (reopen k) e on pass began full = absurd full
+spoils_full m w c e on pass began full = subst T (sym (full_alike m w c e on pass ∙ spoils_is m.plain (kind c) e began full)) tt

@@ -11,7 +11,7 @@ use Rattle.recovery.specs.Readings.{image}
 use Rattle.history.specs.Faults.{store_fault}
 use Rattle.history.specs.Steps.{both_on, work_bytes, Memory, closed, serving, invalid, ground, next_free}
 use Rattle.history.specs.History.{Situation, Call, ask_status, ask_merge, read_origin, read_view, write_origin, write_snapshot, write_merging, flush_all, begin_merge, step_merge, leave_merge, reopen, Reply, nothing, contents, merged, Answer, Happens, Made, PowerCut, joined, End, completed, under_way, not_done, ending, History, begun, next_call, cut, rejoin, making_refused}
-use Rattle.history.specs.Machine.{Machine, made, finding, reads_at, Simulates}
+use Rattle.history.specs.Machine.{Plain, Machine, made, finds_full, finding, reads_at, Simulates}
 
 -- WHAT IS SHOWN
 
@@ -146,6 +146,20 @@ found_full w flushes e = false
 found_full w uses_snapshot e = false
 found_full w apart e = false
 
+-- the same by the machine: an origin write that it says finds the store full
+abbrev pub full_by_machine : Plain → Kind → End → Bool
+full_by_machine p (writes_view s b) e = false
+full_by_machine p (writes_origin s) e = begins e && finds_full p s
+full_by_machine p flushes e = false
+full_by_machine p uses_snapshot e = false
+full_by_machine p apart e = false
+
+-- the two are the same, at every call of every history
+abbrev pub FullByMachine : Machine → Situation → Type 0
+FullByMachine m₀ start =
+    (w after : Situation) (h : History start w) (c : Call) (a : Answer) → Happens w c a after →
+    (m : Machine) × Simulates m₀ h m × (found_full w (kind c) (ending a) ≡ full_by_machine m.plain (kind c) (ending a))
+
 -- some call of a history, begun in a situation and with an answer, is so
 abbrev pub SomeCall : (Situation → Call → Answer → Bool) → {start w : Situation} → History start w → Type 0
 SomeCall so begun = ⊥
@@ -195,6 +209,7 @@ pub record Protected (m : Machine) (start : Situation) : Type 0 where
   pub merge : MergeCompletes start
   pub reopens : Reopens start
   pub exactly : OpensExactly m start
+  pub full : FullByMachine m start
   pub invalid_for_good : StaysInvalid start
   pub along : {w : Situation} (h : History start w) → (e : Machine) × Simulates m h e
 
