@@ -1,8 +1,10 @@
 -- The definitions on small closed examples.
 use Rattle.std.specs.Prelude.{◌≡◌, ℕ, zero, suc, ◌+◌, Bool, true, false, cond, not, ◌&&◌, ◌||◌, List, [], ◌∷◌, ◌++◌, map, length, replicate, is_some, Some, None, Option, ◌==◌, slice_index_or, refl}
-use Rattle.std.proofs.Common.{inl, inr, lit<}
-use Rattle.device.specs.Disk.{Bytes, Cell, possibilities, Disk, Fate, calm, at, Op, writes, flushes, way, off, Told, good, refused, refusal, told_by, after_by}
+use Rattle.std.proofs.Common.{T, inl, inr, lit<, sym, ap}
+use Rattle.std.proofs.ByRecursion.{has_push}
+use Rattle.device.specs.Disk.{Bytes, Cell, possibilities, Disk, Whole, Fate, calm, at, Op, writes, flushes, way, off, Told, good, refused, refusal, told_by, after_by}
 use Rattle.device.specs.Plain as Plain
+use Rattle.device.specs.Sectors.{only as only_one}
 use Rattle.device.specs.Plans.{Side, origin, cow, Disks, pair, side, with_side, Plan, done, call, both, Ended, ended, astray, run}
 use Rattle.layout.specs.declared.chunk.ChunkSize.TheVariants.{One, Two}
 use Rattle.layout.specs.declared.exception.Exception.{Exception}
@@ -18,7 +20,7 @@ use Rattle.history.specs.Faults.{Fault, fault, store_up, passed_up}
 use Rattle.history.specs.Steps.{Memory, closed, serving, invalid, Mode, plain, merging, ground, Outcome, make, open_pair, origin_read, view_read, origin_write, snapshot_write, status, figures_of, merge_step, Merged}
 use Rattle.history.specs.History.{Situation, Call, ask_status, ask_merge, read_origin, read_view, write_origin, write_snapshot, write_merging, flush_all, begin_merge, step_merge, leave_merge, reopen, nothing, contents, became_invalid, merged, figures, Answer, offers, Result, plan_of, Happens, joined, Made, PowerCut, History, begun, next_call, cut, rejoin, making_refused, RefusedMaking, End, completed, under_way, not_done, ending}
 use Rattle.history.specs.Machine.{Plain, Machine, only, diverged_at, table_of, with_origin, with_view, made, next, fresh as rejoined, expected, making_expected, Follows, told as as_expected, broken_off, cut_short, finding, reads_at}
-use Rattle.history.specs.Promise.{shown, kind, of_snapshot, Candidate, Owed, found_full, is_invalid_refusal}
+use Rattle.history.specs.Promise.{shown, kind, of_snapshot, Candidate, Owed, found_full, FoundFull, is_invalid_refusal, RefusedInvalid}
 
 -- RUNS
 
@@ -1437,6 +1439,96 @@ making_expected_stopped = refl
 
 pub making_expected_good : making_expected (rejoined (made One w₀.disks)) 1 ≡ None
 making_expected_good = refl
+
+-- both devices of that making are whole
+pub fresh_whole : Whole (fresh 8).origin × Whole (fresh 8).cow
+fresh_whole = (
+  record { some = lit< tt; few = lit< tt; long = λ s b l has. ap length (sym (only_one has)) },
+  record { some = lit< tt; few = lit< tt; long = λ s b l has. ap length (sym (only_one has)) },
+)
+
+-- WHOLE HISTORIES FROM A MAKING ON
+
+-- whether a run ended
+abbrev arrives : Ended Disks Result → Bool
+arrives (ended r d) = true
+arrives astray = false
+
+run_ended : (e : Ended Disks Result) (w : Situation) → T (arrives e) → e ≡ ended (record { answer = said e; memory = (situation e w).memory; mode = (situation e w).mode }) (situation e w).disks
+run_ended (ended r d) w h = refl
+run_ended astray w h = absurd h
+
+-- a call of n device calls happens, with the answer of that run
+pub happens : (n : ℕ) (c : Call) (w : Situation) → T (offers w.mode c) → T (arrives (run both (plan_of (ground w.disks) w.memory w.mode c) (replicate n calm) w.disks)) → Happens w c (said (run both (plan_of (ground w.disks) w.memory w.mode c) (replicate n calm) w.disks)) (after_calls n c w)
+happens n c w offered h = record { offered = offered; ran = record { fates = replicate n calm; comes = run_ended _ w h } }
+
+-- a power cut that leaves the last possibilities
+pub latest_left : (w : Situation) → PowerCut w (cut_situation (λ k. k.latest) w)
+latest_left w = record {
+  origin = record { same_count = refl; single = λ s. refl; one_of = λ s. has_push (w.disks.origin.cells s).older _; runs = refl };
+  cow = record { same_count = refl; single = λ s. refl; one_of = λ s. has_push (w.disks.cow.cells s).older _; runs = refl };
+  fresh = refl;
+}
+
+-- after the origin write a merge is begun
+abbrev m₂ : Situation
+m₂ = after_calls 0 begin_merge w₁
+
+abbrev merging_history : History w₀ m₂
+merging_history = next_call first_history begin_merge ok m₂ (happens 0 begin_merge w₁ tt tt)
+
+-- there a read of the view is answered, and a step leaves nothing, of five device calls; then comes a power cut
+abbrev m₃ : Situation
+m₃ = after_calls 5 a_step m₂
+
+pub view_seen : Happens m₂ (from_view 1) (reads 11) (after_calls 1 (from_view 1) m₂)
+view_seen = happens 1 (from_view 1) m₂ tt tt
+
+pub step_happens : Happens m₂ a_step (steps 1 0) m₃
+step_happens = happens 5 a_step m₂ tt tt
+
+pub step_cut : PowerCut m₃ (cut_situation (λ k. k.latest) m₃)
+step_cut = latest_left m₃
+
+-- the origin reads as the view did
+pub merged_so : image m₃.disks.origin 1 ≡ full 11
+merged_so = refl
+
+-- a store for one exception is made; the second origin write spoils it
+abbrev u₀ : Situation
+u₀ =
+    let p = left (run both (make (ground (fresh 3)) closed 1) (replicate 7 calm) (fresh 3)) in
+    record { disks = p.disks; memory = p.memory; mode = plain }
+
+pub small_made : Made 1 (fresh 3) u₀
+small_made = record { ran = record { fates = replicate 7 calm; comes = refl }; pair = refl }
+
+abbrev u₁ : Situation
+u₁ = after_calls 6 (to_origin 0 50) u₀
+
+abbrev u₂ : Situation
+u₂ = after_calls 3 (to_origin 1 60) u₁
+
+abbrev u₃ : Situation
+u₃ = after_calls 0 (from_view 0) u₂
+
+abbrev small_history : History u₀ u₃
+small_history =
+    next_call
+    (next_call (next_call begun (to_origin 0 50) still_valid u₁ (happens 6 (to_origin 0 50) u₀ tt tt)) (to_origin 1 60) now_invalid u₂ (happens 3 (to_origin 1 60) u₁ tt tt))
+    (from_view 0) (refused (fault 6 3 0 0 0)) u₃ (happens 0 (from_view 0) u₂ tt tt)
+
+pub small_invalid : RefusedInvalid small_history
+small_invalid = inl tt
+
+pub small_full : FoundFull small_history
+small_full = inr (inl tt)
+
+-- the origin is served all the same
+pub small_read : Happens u₃ (from_origin 1) (reads 60) (after_calls 1 (from_origin 1) u₃)
+small_read = happens 1 (from_origin 1) u₃ tt tt
+
+-- OFFERS
 
 -- a pair offers no merge step, and a merging snapshot no snapshot write
 pub no_step : offers plain a_step ≡ false
