@@ -1,11 +1,12 @@
 // What a snapshot promises over whole histories of calls and power cuts. This crate is theory: its
-// function has no code, and its contract names the theorem.
+// functions have no code, and their contracts name the theorems.
 #![tactic(auto)]
 
 ghost use Rattle.history.specs.Promise.{CrashSafe, AnswersAreTheMachines};
 
 // A snapshot that was made on any two devices keeps the promise in every history of calls, in any
-// order and with any arguments, of power cuts at any device call, and of pairs put together anew.
+// order and with any arguments, of power cuts at any device call, of pairs put together anew, and of
+// makings that are refused.
 pub fn no_history_breaks_the_promise()
     ensures { CrashSafe }
 {}
