@@ -1,30 +1,30 @@
 -- The store's calls and its data sectors.
-use Rattle.std.proofs.Common.{◌≡◌, ℕ, ◌/◌, ◌<◌, true, eqb, List, [], ◌∷◌, length, sym, refl, ap, ◌∙◌, subst, ⊎_elim}
+use Rattle.std.proofs.Common.{◌≡◌, ℕ, ◌<◌, ◌⊎◌, List, [], ◌∷◌, length, sym, refl, ap, ◌∙◌, subst, inl, inr}
 use Rattle.std.specs.List.{ContainsAt as Has}
-use Rattle.std.proofs.lemmas.Bool.{cases_Bool, and_parts, cond-true, cond-false}
-use Rattle.device.specs.Disk.{Bytes, Disk, possibilities, reads, writes, Told, good, refused, Refusal}
-use Rattle.device.specs.Plans.{Plan, done, Runs, one, onward, raised}
+use Rattle.device.specs.Disk.{Bytes, Disk, possibilities, Told, good, Refusal}
+use Rattle.device.specs.Plans.{Plan, Runs, one}
 use Rattle.device.proofs.Possible.{last_has}
 use Rattle.device.proofs.Uses.{over as run_over}
 use Rattle.layout.specs.declared.chunk.ChunkSize.{ChunkSize}
 use Rattle.layout.specs.declared.exception.Exception.{Exception}
-use Rattle.layout.specs.Chunks.{sectors, per_area, is_data}
+use Rattle.layout.specs.Chunks.{sectors, per_area, in_copy}
 use Rattle.exceptions.specs.Table.{without_run}
 use Rattle.store.specs.declared.shape.Shape.{Shape}
 use Rattle.store.specs.Image.{Sizes}
-use Rattle.store.specs.Judge.{width, on_data}
-use Rattle.store.specs.Refusals.{StoreRefusal, because, up, asking}
+use Rattle.store.specs.Judge.{width}
+use Rattle.store.specs.Refusals.{StoreRefusal}
 use Rattle.store.specs.Scanning.{Ending, most_areas}
-use Rattle.store.specs.Steps.{Contents, shape_of, finished, flushing, making, spoiling, dropping, drop_run, data_test, data_read, data_write}
+use Rattle.store.specs.Steps.{Contents, shape_of, finished, flushing, making, spoiling, dropping, drop_run, data_read, data_write, copy_read, copy_write, chunk_read, chunk_write}
 use Rattle.recovery.specs.Readings.{image}
 use Rattle.recovery.specs.Standing.{Within, Standing, Stands}
-use Rattle.recovery.specs.Data.{IsData, DataKept, CallsKeepData, DataCallsKeepList}
+use Rattle.recovery.specs.Data.{IsData, DataKept, CallsKeepData, DataCallsKeepList, at_sector, at_chunk, Written, WrittenWell, DataWrites}
 use Rattle.recovery.proofs.Again.{end_of}
-use Rattle.recovery.proofs.Allowed.{Writes, on_good, run_within}
+use Rattle.recovery.proofs.Allowed.{Writes, run_within}
 use Rattle.recovery.proofs.Calls.{Did, did, did_run, Entered, declined, tried, entered, lifts}
 use Rattle.recovery.proofs.Cleans.{parts, Opened, unread, cleaned, opened}
+use Rattle.recovery.proofs.DataCalls.{chunk_data, flush_writes, data_read_writes, data_write_writes, copy_read_writes, copy_write_writes, chunk_read_writes, chunk_write_writes, data_write_good, copy_write_good, chunk_write_good}
 use Rattle.recovery.proofs.Finds.{sectors_within}
-use Rattle.recovery.proofs.Keeps.{Quiet, quiet_keeps, kept_same, header_no_data, area_no_data, making_quiet, spoiling_quiet, entering_quiet, dropping_quiet, cleaning_quiet}
+use Rattle.recovery.proofs.Keeps.{Quiet, quiet_keeps, kept_same, Elsewhere, run_reads, header_no_data, area_no_data, making_quiet, spoiling_quiet, entering_quiet, dropping_quiet, cleaning_quiet}
 
 -- steps on the device that write no data
 did_keeps : {A : Type 0} (c : ℕ) (p : Plan (Unit {0}) (Told Refusal (Unit {0}))) (a : A) (t : Told StoreRefusal A) (d e : Disk) → Quiet c p → Did p a t d e → DataKept c d e
@@ -53,6 +53,10 @@ calls_keep_data = record {
   opening = λ z size es d e t finds r.
       let p = parts z size es (image d) finds in
       opened_keeps z size p.ending t d e (end_of (shape_of z size) (image d) most_areas 0 [] p.ending p.scan).inside (opened z size p.ending d p.head p.scan t e r);
+  reading = λ s at len d e t r. quiet_keeps (width s) (data_read s at len) t d e (λ A ok. data_read_writes A s at len) r;
+  copy_reading = λ s k at len d e t r. quiet_keeps (width s) (copy_read s k at len) t d e (λ A ok. copy_read_writes A s k at len) r;
+  chunk_reading = λ s k buffer d e t r. quiet_keeps (width s) (chunk_read s k buffer) t d e (λ A ok. chunk_read_writes A s k buffer) r;
+  flush = λ c d e t r. did_keeps {A = Unit {0}} c (flushing finished) tt t d e (λ A ok. flush_writes A) (lifts (flushing finished) t d e r);
 }
 
 -- DATA CALLS
@@ -83,46 +87,65 @@ still_stands z size es p x d e only stands r =
       single = λ b has. same 0 (image e 0) (last_has (e.cells 0)) refl ∙ sym (same 0 b has refl);
     }
 
-module _ (A : ℕ → Bytes → Type 0) (s : ℕ) where
-  read_ends : (t : Told Refusal Bytes) → Writes A (onward (raised up t) (λ b. done (good b)))
-  read_ends (good b) = tt
-  read_ends (refused f) = tt
-
-  reading_writes : (len : ℕ) (v : Told StoreRefusal (Unit {0})) → Writes A (onward v (λ _. asking (reads len s) (λ b. done (good b))))
-  reading_writes len (good u) = (tt, read_ends)
-  reading_writes len (refused f) = tt
-
-  write_ends : (t : Told Refusal Bytes) → Writes A (onward (raised up t) (λ _. done (good (tt {0}))))
-  write_ends (good b) = tt
-  write_ends (refused f) = tt
-
-  -- the write comes only after the tests
-  writing_writes : (shape : Shape) (bytes : Bytes) → (is_data (width shape) (s / width shape) ≡ true → A s bytes) → Writes A (data_write shape s bytes)
-  writing_writes shape bytes ok =
-      ⊎_elim
-      (λ long.
-      ⊎_elim
-      (λ on.
-      let passed : data_test shape s (length bytes) ≡ good tt = cond-true (eqb (length bytes) 512) _ _ long ∙ cond-true (on_data shape (s / width shape)) _ _ on in
-      subst (λ v. Writes A (onward v steps)) (sym passed) (ok (and_parts (is_data (width shape) (s / width shape)) _ on).0, write_ends))
-      (λ off.
-      let stopped : data_test shape s (length bytes) ≡ refused (because 2 s 0) = cond-true (eqb (length bytes) 512) _ _ long ∙ cond-false (on_data shape (s / width shape)) _ _ off in
-      subst (λ v. Writes A (onward v steps)) (sym stopped) tt)
-      (cases_Bool (on_data shape (s / width shape))))
-      (λ short.
-      let stopped : data_test shape s (length bytes) ≡ refused (because 1 0 0) = cond-false (eqb (length bytes) 512) _ _ short in
-      subst (λ v. Writes A (onward v steps)) (sym stopped) tt)
-      (cases_Bool (eqb (length bytes) 512))
-    where
-      steps : Unit {0} → Plan (Unit {0}) (Told StoreRefusal (Unit {0}))
-      steps u = asking (writes s bytes) (λ _. done (good tt))
-
 flush_stands : (z : Sizes) (size : ChunkSize) (es : List Exception) (d e : Disk) (t : Told StoreRefusal (Unit {0})) → Stands z size es d → Did {A = Unit {0}} (flushing finished) tt t d e → Stands z size es e
-flush_stands z size es d e t stands h = still_stands z size es (flushing finished) _ d e (λ A ok. (tt, on_good A (λ _. finished) (λ _. tt))) stands (did_run h).1
+flush_stands z size es d e t stands h = still_stands z size es (flushing finished) _ d e (λ A ok. flush_writes A) stands (did_run h).1
 
 pub data_calls_keep_list : DataCallsKeepList
 data_calls_keep_list = record {
-  reading = λ z size es s len d e t stands r. still_stands z size es (data_read (shape_of z size) s len) t d e (λ A ok. reading_writes A s len (data_test (shape_of z size) s len)) stands r;
-  writing = λ z size es s bytes d e t stands r. still_stands z size es (data_write (shape_of z size) s bytes) t d e (λ A ok. writing_writes A s (shape_of z size) bytes (ok s bytes)) stands r;
+  reading = λ z s es at len d e t stands r. still_stands z s.size es (data_read s at len) t d e (λ A ok. data_read_writes A s at len) stands r;
+  writing = λ z s es at bytes d e t stands r. still_stands z s.size es (data_write s at bytes) t d e (λ A ok. data_write_writes A s at bytes (ok at bytes)) stands r;
+  copy_reading = λ z s es k at len d e t stands r. still_stands z s.size es (copy_read s k at len) t d e (λ A ok. copy_read_writes A s k at len) stands r;
+  copy_writing = λ z s es k at bytes d e t stands r. still_stands z s.size es (copy_write s k at bytes) t d e (λ A ok. copy_write_writes A s k at bytes (ok _ bytes)) stands r;
+  chunk_reading = λ z s es k buffer d e t stands r. still_stands z s.size es (chunk_read s k buffer) t d e (λ A ok. chunk_read_writes A s k buffer) stands r;
+  chunk_writing = λ z s es k bytes d e t stands r. still_stands z s.size es (chunk_write s k bytes) t d e (λ A ok. chunk_write_writes A s k bytes (λ i l is. ok _ _ is)) stands r;
   flush = λ z size es d e t stands r. flush_stands z size es d e t stands (lifts (flushing finished) t d e r);
 }
+
+-- WHAT A DATA WRITE DOES
+
+-- all that a plan writes is among the bytes New
+abbrev Puts : {X : Type 0} → (ℕ → Bytes → Type 0) → Plan (Unit {0}) X → Type 1
+Puts New p = (A : ℕ → Bytes → Type 0) → ((s : ℕ) (b : Bytes) → New s b → A s b) → Writes A p
+
+written : {X : Type 0} (New : ℕ → Bytes → Type 0) (p : Plan (Unit {0}) X) (x : X) (d e : Disk) → Puts New p → Runs one p d x e → Written New d e
+written New p x d e puts r = record {
+  possible = run_within (λ s b. Has (possibilities (d.cells s)) b ⊎ New s b) (puts _ (λ s b. inr)) r (λ s b. inl);
+  others = λ s none. run_reads s p r.fates d e x (puts (Elsewhere s) (λ t b new same. none b (subst (λ u. New u b) same new))) r.comes;
+}
+
+-- a write at one sector puts its bytes there
+only_there : {X : Type 0} (s : ℕ) (bytes : Bytes) (p : Plan (Unit {0}) X) → ((A : ℕ → Bytes → Type 0) → A s bytes → Writes A p) → Puts (at_sector s bytes) p
+only_there s bytes p writes A ok = writes A (ok s bytes (refl, refl))
+
+-- and reads them back
+read_there : (c s : ℕ) (bytes : Bytes) {d e : Disk} → Written (at_sector s bytes) d e → IsData c s → image e s ≡ bytes → WrittenWell c (at_sector s bytes) d e
+read_there c s bytes {d} {e} within there here = record {
+  within = within;
+  place = λ t b new. subst (IsData c) (sym new.0) there;
+  reads = λ t b new. ap (image e) new.0 ∙ here ∙ sym new.1;
+}
+
+pub data_writes : DataWrites
+data_writes = record {
+  writing = λ s at bytes d e t r. data_put s at bytes d e t r;
+  written = λ s at bytes d e r. let g = data_write_good s at bytes r in read_there (width s) at bytes (data_put s at bytes d e (good tt) r) g.0 g.1;
+  copy_writing = λ s k at bytes d e t r. copy_put s k at bytes d e t r;
+  copy_written = λ s k at bytes x d e r. let g = copy_write_good s k at bytes x r in read_there (width s) _ bytes (copy_put s k at bytes d e (good x) r) g.0 g.1;
+  chunk_writing = λ s k bytes d e t r. chunk_put s k bytes d e t r;
+  chunk_written = λ s k bytes d e r.
+      let g = chunk_write_good s k bytes r in
+      record {
+        within = chunk_put s k bytes d e (good tt) r;
+        place = λ t b new. subst (IsData (width s)) (sym new.2) (chunk_data s k new.0 new.1 g.0);
+        reads = λ t b new. ap (image e) new.2 ∙ g.1 new.0 new.1 ∙ sym new.3;
+      };
+}
+  where
+    data_put : (s : Shape) (at : ℕ) (bytes : Bytes) (d e : Disk) (t : Told StoreRefusal (Unit {0})) → Runs one (data_write s at bytes) d t e → Written (at_sector at bytes) d e
+    data_put s at bytes d e t r = written _ _ t d e (only_there at bytes (data_write s at bytes) (λ A ok. data_write_writes A s at bytes (λ is. ok))) r
+
+    copy_put : (s : Shape) (k at : ℕ) (bytes : Bytes) (d e : Disk) (t : Told StoreRefusal Bytes) → Runs one (copy_write s k at bytes) d t e → Written (at_sector (in_copy (width s) k at) bytes) d e
+    copy_put s k at bytes d e t r = written _ _ t d e (only_there (in_copy (width s) k at) bytes (copy_write s k at bytes) (λ A ok. copy_write_writes A s k at bytes (λ is. ok))) r
+
+    chunk_put : (s : Shape) (k : ℕ) (bytes : Bytes) (d e : Disk) (t : Told StoreRefusal (Unit {0})) → Runs one (chunk_write s k bytes) d t e → Written (at_chunk (width s) k bytes) d e
+    chunk_put s k bytes d e t r = written _ _ t d e (λ A ok. chunk_write_writes A s k bytes (λ i l is. ok _ _ (i, l, refl, refl))) r

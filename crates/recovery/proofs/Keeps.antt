@@ -1,9 +1,9 @@
 -- Calls that write only the header and areas keep the data sectors.
-use Rattle.std.proofs.Common.{◌≡◌, ℕ, zero, suc, ◌+◌, ◌*◌, ◌/◌, ◌%◌, ◌<◌, Bool, true, false, not, List, [], ◌∷◌, sym, refl, ap, ◌∙◌, subst, mod-lt, mul_comm, arith}
+use Rattle.std.proofs.Common.{◌≡◌, ℕ, zero, suc, ◌+◌, ◌*◌, ◌/◌, ◌%◌, ◌<◌, eqb, Bool, true, false, not, List, [], ◌∷◌, sym, refl, ap, ◌∙◌, subst, mod-lt, mul_comm, arith}
 use lib.Arith.{digits_div, digits_mod}
 use Rattle.std.specs.List.{ContainsAt as Has}
-use Rattle.std.proofs.lemmas.Bool.{and_parts, true≢false, eq-eqb, not_from_true}
-use Rattle.device.specs.Disk.{Bytes, Disk, Fate, possibilities, Op, reads, writes, flushes, Way, passes, leaves, refuses, way, told_by, after_by, Told, good, refused, Refusal}
+use Rattle.std.proofs.lemmas.Bool.{and_parts, true≢false, eq-eqb, ne_eqb, not_from_true, cond-false}
+use Rattle.device.specs.Disk.{Bytes, Cell, Disk, Fate, possibilities, Op, reads, writes, flushes, Way, passes, leaves, refuses, way, told_by, after_by, Told, good, refused, Refusal}
 use Rattle.device.specs.Plans.{Plan, done, call, run, ended, Runs, one, Steps, onward, then, zeroing}
 use Rattle.device.proofs.Steps.{never}
 use Rattle.layout.specs.declared.exception.Exception.{Exception}
@@ -17,7 +17,6 @@ use Rattle.recovery.specs.Readings.{image}
 use Rattle.recovery.specs.Data.{IsData, DataKept}
 use Rattle.recovery.proofs.Allowed.{Allowed, Writes, on_good, run_within, then_writes, cleaning_writes}
 use Rattle.recovery.proofs.Enters.{zeroing_writes, storing_writes}
-use Rattle.recovery.proofs.Gone.{leaves_off}
 use Rattle.recovery.proofs.Zeros.{put_elsewhere}
 
 -- WHERE DATA IS NOT
@@ -37,40 +36,28 @@ place_no_data c j some h = area_no_data c (j / c) (j % c) (mod-lt j some) h
 
 -- WHAT A RUN KEEPS
 
--- a device that is gone stays so
-off_stays : (w : Way) (o : Op) (d : Disk) (f : Fate) → d.on ≡ false → (after_by w o d f).on ≡ false
-off_stays passes (reads len s) d f is = is
-off_stays passes (writes s bytes) d f is = is
-off_stays passes flushes d f is = is
-off_stays leaves o d f is = leaves_off o d f
-off_stays (refuses n p) o d f is = is
-
-off_ends : {X : Type 0} (p : Plan (Unit {0}) X) (fs : List Fate) (d e : Disk) (x : X) → run one p fs d ≡ ended x e → d.on ≡ false → e.on ≡ false
-off_ends (done y) [] d e x h is = let same : d ≡ e = cc in subst (λ y. y.on ≡ false) same is
-off_ends (done y) (f ∷ fs) d e x h is = never h
-off_ends (call u o k) [] d e x h is = never h
-off_ends (call u o k) (f ∷ fs) d e x h is = off_ends (k (told_by (way o d f) o d)) fs (after_by (way o d f) o d f) e x h (off_stays (way o d f) o d f is)
-
 -- other sectors than s
-abbrev Elsewhere : ℕ → ℕ → Bytes → Type 0
+abbrev pub Elsewhere : ℕ → ℕ → Bytes → Type 0
 Elsewhere s t b = t ≡ s → ⊥
 
 -- one call that does not write sector s
-step_reads : (s : ℕ) (w : Way) (o : Op) (d e : Disk) (f : Fate) → Allowed (Elsewhere s) o → ((after_by w o d f).on ≡ false → e.on ≡ false) → e.on ≡ true → image (after_by w o d f) s ≡ image d s
-step_reads s passes (reads len t) d e f ok off on = refl
-step_reads s passes (writes t bytes) d e f ok off on = put_elsewhere d t bytes f s (λ is. ok (sym is))
-step_reads s passes flushes d e f ok off on = refl
-step_reads s leaves o d e f ok off on = absurd (true≢false (sym on ∙ off (leaves_off o d f)))
-step_reads s (refuses n p) o d e f ok off on = refl
+step_reads : (s : ℕ) (w : Way) (o : Op) (d : Disk) (f : Fate) → Allowed (Elsewhere s) o → image (after_by w o d f) s ≡ image d s
+step_reads s passes (reads len t) d f ok = refl
+step_reads s passes (writes t bytes) d f ok = put_elsewhere d t bytes f s (λ is. ok (sym is))
+step_reads s passes flushes d f ok = refl
+step_reads s leaves (reads len t) d f ok = refl
+step_reads s leaves (writes t bytes) d f ok = ap (λ (c : Cell). c.latest) (cond-false (eqb s t) _ _ (ne_eqb s t (λ is. ok (sym is))))
+step_reads s leaves flushes d f ok = refl
+step_reads s (refuses n p) o d f ok = refl
 
-run_reads : {X : Type 0} (s : ℕ) (p : Plan (Unit {0}) X) (fs : List Fate) (d e : Disk) (x : X) → Writes (Elsewhere s) p → run one p fs d ≡ ended x e → e.on ≡ true → image e s ≡ image d s
-run_reads s (done y) [] d e x ok h on = let same : d ≡ e = cc in ap (λ y. image y s) (sym same)
-run_reads s (done y) (f ∷ fs) d e x ok h on = never h
-run_reads s (call u o k) [] d e x ok h on = never h
-run_reads s (call u o k) (f ∷ fs) d e x ok h on =
+-- a sector that a plan does not write reads the same
+pub run_reads : {X : Type 0} (s : ℕ) (p : Plan (Unit {0}) X) (fs : List Fate) (d e : Disk) (x : X) → Writes (Elsewhere s) p → run one p fs d ≡ ended x e → image e s ≡ image d s
+run_reads s (done y) [] d e x ok h = let same : d ≡ e = cc in ap (λ y. image y s) (sym same)
+run_reads s (done y) (f ∷ fs) d e x ok h = never h
+run_reads s (call u o k) [] d e x ok h = never h
+run_reads s (call u o k) (f ∷ fs) d e x ok h =
     let w = way o d f in
-    let next = after_by w o d f in
-    run_reads s (k (told_by w o d)) fs next e x (ok.1 _) h on ∙ step_reads s w o d e f ok.0 (λ is. off_ends (k (told_by w o d)) fs next e x h is) on
+    run_reads s (k (told_by w o d)) fs (after_by w o d f) e x (ok.1 _) h ∙ step_reads s w o d f ok.0
 
 -- a plan that writes no data sector
 abbrev pub Quiet : {X : Type 0} → ℕ → Plan (Unit {0}) X → Type 1
@@ -79,7 +66,7 @@ Quiet c p = (A : ℕ → Bytes → Type 0) → ((s : ℕ) (b : Bytes) → (IsDat
 pub quiet_keeps : {X : Type 0} (c : ℕ) (p : Plan (Unit {0}) X) (x : X) (d e : Disk) → Quiet c p → Runs one p d x e → DataKept c d e
 quiet_keeps c p x d e quiet r = record {
   possible = λ s b is has. run_within (λ s b. IsData c s → Has (possibilities (d.cells s)) b) (quiet (λ s b. IsData c s → Has (possibilities (d.cells s)) b) (λ s b no is. absurd (no is))) r (λ s b has _. has) s b has is;
-  reads = λ s is on. run_reads s p r.fates d e x (quiet (Elsewhere s) (λ t b no same. no (subst (IsData c) (sym same) is))) r.comes on;
+  reads = λ s is on. run_reads s p r.fates d e x (quiet (Elsewhere s) (λ t b no same. no (subst (IsData c) (sym same) is))) r.comes;
 }
 
 pub kept_same : (c : ℕ) (d e : Disk) → e.cells ≡ d.cells → DataKept c d e

@@ -27,4 +27,5 @@ pub mod Settles
 pub mod Stays
 pub mod Keeps
 pub mod Orders
+pub mod DataCalls
 pub mod Datas

@@ -4,7 +4,7 @@
 
 ghost use Rattle.recovery.specs.Breaks.{CutSure, DroppingBreaks, DroppingLies, DroppingStands, EnteringBreaks, EnteringLies, EnteringListed, EnteringOrder, EnteringStands, LegibleStands, MakingBreaks, MakingLies, MakingStands, OpeningBreaks, OpeningLies, OpeningStanding, OpeningStands, SpoilingBreaks, SpoilingLies};
 ghost use Rattle.recovery.specs.Calls.{DropBreaks, DropLies, DropStands, EnterBreaks, EnterLies, EnterStands, MakeBreaks, MakeLies, MakeStands, SpoilBreaks, SpoilLies, SpoilStays};
-ghost use Rattle.recovery.specs.Data.{CallsKeepData, DataCallsKeepList};
+ghost use Rattle.recovery.specs.Data.{CallsKeepData, DataCallsKeepList, DataWrites};
 ghost use Rattle.recovery.specs.Holding.{FindsWhatItHolds, PicturesHold};
 ghost use Rattle.recovery.specs.Readings.{OpeningAnswers, OpeningFinds, OpeningRefused};
 ghost use Rattle.recovery.specs.Standing.{StandingLies, StandingOpens};
@@ -87,8 +87,10 @@ pub fn dropping_survives_cuts()
     ensures call_lies { DropLies }
 {}
 
-// No call but a data write changes a data sector, and no data call changes the list.
+// No call but a data write changes a data sector, and no data call changes the list. A good data write
+// is read back. Good or broken off, it adds its bytes to the possibilities of its own sectors at most.
 pub fn data_and_list_are_apart()
     ensures sectors { CallsKeepData }
     ensures list { DataCallsKeepList }
+    ensures writes { DataWrites }
 {}
