@@ -101,7 +101,7 @@ pub opened : (z : Sizes) (size : ChunkSize) (x : Ending) (d : Disk) → header_f
 opened z size x d head scan t e r = by (outcome z d e t r)
   where
     by : Outcome z d t e → Opened z size x t d e
-    by (not_read f is same gone) = unread f is same
+    by (not_read f own is same gone) = unread f is same
     by (declined f none is same) = cc (found_by z (image d) size (good x) head scan)
     by (ran size' x' head' scan' h) =
         let alike : size' ≡ size = same_answer (sym head' ∙ head) in

@@ -1,4 +1,5 @@
 pub mod Gone
+pub mod Owned
 pub mod Opens
 pub mod Finds
 pub mod Gathered

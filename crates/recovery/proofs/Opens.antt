@@ -14,20 +14,21 @@ use Rattle.store.specs.Judge.{width}
 use Rattle.store.specs.Refusals.{StoreRefusal, up, doing}
 use Rattle.store.specs.Scanning.{Parsed, full, over, many, wrong, parsed, Ending, concluded, most_areas, scanning}
 use Rattle.store.specs.Steps.{Contents, shape_of, cleaning, loading, heading, opening}
-use Rattle.recovery.specs.Readings.{Image, image, gathered, area_bytes, scanned, next, found, OpeningFinds, OpeningRefused}
+use Rattle.recovery.specs.Readings.{Image, image, gathered, area_bytes, scanned, next, found, Own, OpeningFinds, OpeningRefused}
 use Rattle.recovery.proofs.Calls.{Did, went, broke, did}
 use Rattle.recovery.proofs.Gone.{Gone, refused_gone, left_gone}
+use Rattle.recovery.proofs.Owned.{refused_own, left_own, run_own, cleaning_upright}
 
--- an answer x that leaves e: what is due, with no change, or a refusal of the device, which changes no sector; it is gone
+-- an answer x that leaves e: what is due, with no change, or the device's own refusal, which changes no sector; it is gone
 -- then, if the sectors to read are on the device
 data Due {A : Type 0} (On : Type 0) (d : Disk) (due : A) (no_answer : Refusal → A) (x : A) (e : Disk) : Type 0 where
   given : x ≡ due → e ≡ d → Due On d due no_answer x e
-  stopped : (r : Refusal) → x ≡ no_answer r → e.cells ≡ d.cells → (On → Gone r e) → Due On d due no_answer x e
+  stopped : (r : Refusal) → Own r e → x ≡ no_answer r → e.cells ≡ d.cells → (On → Gone r e) → Due On d due no_answer x e
 
 -- the same of more sectors
 wider : {A On On' : Type 0} {d : Disk} {due : A} {no_answer : Refusal → A} {x : A} {e : Disk} → (On' → On) → Due On d due no_answer x e → Due On' d due no_answer x e
 wider h (given is same) = given is same
-wider h (stopped r is same gone) = stopped r is same (λ on. gone (h on))
+wider h (stopped r own is same gone) = stopped r own is same (λ on. gone (h on))
 
 -- n sectors from s on are on the device
 abbrev pub RangeOn : Disk → ℕ → ℕ → Type 0
@@ -42,9 +43,9 @@ range_rest d s n on = λ q l. let h = on (suc q) (omega arith) in omega arith
 -- one read and then the rest
 read_then : (n s : ℕ) (sofar : Bytes) {d e : Disk} {t : Told Refusal Bytes} → (Runs one (gathering (s + 1) n (sofar ++ image d s)) d t e → Due (RangeOn d (s + 1) n) d (good (gathered (image d) (s + 1) n (sofar ++ image d s))) refused t e) → Went {B = Bytes} one tt (reads 512 s) (λ b. gathering (s + 1) n (sofar ++ b)) d t e → Due (RangeOn d s (suc n)) d (good (gathered (image d) s (suc n) sofar)) refused t e
 read_then n s sofar {d} on (went_on f is r) = wider (range_rest d s n) (on r)
-read_then n s sofar {d} on (left_in f is a y) = stopped (refusal 3 s) a (ap (λ z. z.cells) y) (λ _. left_gone (reads 512 s) d f y)
+read_then n s sofar {d} on (left_in f is a y) = stopped (refusal 3 s) (subst (Own (refusal 3 s)) (sym y) (left_own (reads 512 s) d f)) a (ap (λ z. z.cells) y) (λ _. left_gone (reads 512 s) d f y)
 read_then n s sofar {d} {e} on (was_refused f m p is a y) =
-    stopped (refusal m p) a (ap (λ z. z.cells) y) (λ here. subst (Gone (refusal m p)) (sym y) (refused_gone (reads 512 s) d f m p (λ w. way_here 512 s d w refl (range_first d s n here)) is))
+    stopped (refusal m p) (subst (Own (refusal m p)) (sym y) (refused_own (reads 512 s) d f m p is)) a (ap (λ z. z.cells) y) (λ here. subst (Gone (refusal m p)) (sym y) (refused_gone (reads 512 s) d f m p (λ w. way_here 512 s d w refl (range_first d s n here)) is))
 
 gathers : (n s : ℕ) (sofar : Bytes) {d e : Disk} {t : Told Refusal Bytes} → Runs one (gathering s n sofar) d t e → Due (RangeOn d s n) d (good (gathered (image d) s n sofar)) refused t e
 gathers zero s sofar r = let q = run_over r in given q.0 q.1
@@ -81,9 +82,9 @@ module _ (n : ℕ) (s : Shape) (a : ℕ) {d e : Disk} {x : Told StoreRefusal End
   unfolding ScanOn
   read_area es {t} {e'} (given is same) r =
       wider (λ h. h.1) (by_entries (area_bytes s (image d) a) (parsed s a (area_bytes s (image d) a) (per_area (width s)) 0 es) (subst₂ (λ t z. Runs one (rest es t) z x e) is same r))
-  read_area es {t} {e'} (stopped f is same gone) r =
+  read_area es {t} {e'} (stopped f own is same gone) r =
       let q = run_over (subst (λ t. Runs one (rest es t) e' x e) is r) in
-      stopped f q.0 (ap (λ z. z.cells) q.1 ∙ same) (λ h. subst (Gone f) (sym q.1) (gone h.0))
+      stopped f (subst (Own f) (sym q.1) own) q.0 (ap (λ z. z.cells) q.1 ∙ same) (λ h. subst (Gone f) (sym q.1) (gone h.0))
 
 scans : (n : ℕ) (s : Shape) (a : ℕ) (es : List Exception) {d e : Disk} {x : Told StoreRefusal Ending} → Runs one (scanning s n a es) d x e → Due (ScanOn s d n a es) d (scanned s (image d) n a es) upward x e
 unfolding scanning scanned
@@ -114,9 +115,9 @@ headed z {d} {e} {t} r =
     by {b} {m} (given is same) q =
         let o = run_over (subst₂ (λ x y. Runs one (told_header z x) y t e) is same q) in
         given o.0 o.1
-    by {b} {m} (stopped f is same gone) q =
+    by {b} {m} (stopped f own is same gone) q =
         let o = run_over (subst (λ x. Runs one (told_header z x) m t e) is q) in
-        stopped f o.0 (ap (λ y. y.cells) o.1 ∙ same) (λ some. subst (Gone f) (sym o.1) (gone (λ k l. omega arith)))
+        stopped f (subst (Own f) (sym o.1) own) o.0 (ap (λ y. y.cells) o.1 ∙ same) (λ some. subst (Gone f) (sym o.1) (gone (λ k l. omega arith)))
 
 -- all sectors that an opening reads are on the device
 pub record Reached (z : Sizes) (d : Disk) : Type 0 where
@@ -125,7 +126,7 @@ pub record Reached (z : Sizes) (d : Disk) : Type 0 where
 
 -- an opening: the device refused a read, the image was refused, or a list was found and the cleaning ran
 pub data Outcome (z : Sizes) (d : Disk) (t : Told StoreRefusal Contents) (e : Disk) : Type 0 where
-  unread : (f : Refusal) → t ≡ refused (up f) → e.cells ≡ d.cells → (Reached z d → Gone f e) → Outcome z d t e
+  unread : (f : Refusal) → Own f e → t ≡ refused (up f) → e.cells ≡ d.cells → (Reached z d → Gone f e) → Outcome z d t e
   declined : (f : StoreRefusal) → found z (image d) ≡ refused f → t ≡ refused f → e ≡ d → Outcome z d t e
   ran : (size : ChunkSize) (x : Ending) → header_found z (image d 0) ≡ good size → scanned (shape_of z size) (image d) most_areas 0 [] ≡ good x → Did {A = Contents} (cleaning (sectors size) x) (record { size = size; table = x.table }) t d e → Outcome z d t e
 
@@ -170,10 +171,10 @@ module _ (z : Sizes) (size : ChunkSize) (d : Disk) (head : header_found z (image
 
       by : {v : Told StoreRefusal Ending} {u : Told StoreRefusal (List Exception)} {m mid : Disk} → Due (ScanOn s d most_areas 0 []) d (scanned s (image d) most_areas 0 []) upward v m → Runs one (cleans (sectors size) v) m u mid → Runs one (loaded s u) mid t e → Outcome z d t e
       by {v} {u} {m} {mid} (given is same) r q = told (scanned s (image d) most_areas 0 []) refl (subst₂ (λ v y. Runs one (cleans (sectors size) v) y u mid) is same r) q
-      by {v} {u} {m} {mid} (stopped f is same gone) r q =
+      by {v} {u} {m} {mid} (stopped f own is same gone) r q =
           let a = run_over (subst (λ v. Runs one (cleans (sectors size) v) m u mid) is r) in
           let o = run_over (subst (λ u. Runs one (loaded s u) mid t e) a.0 q) in
-          unread f o.0 (ap (λ y. y.cells) (o.1 ∙ a.1) ∙ same) (λ on. subst (Gone f) (sym (o.1 ∙ a.1)) (gone (on.areas size head)))
+          unread f (subst (Own f) (sym (o.1 ∙ a.1)) own) o.0 (ap (λ y. y.cells) (o.1 ∙ a.1) ∙ same) (λ on. subst (Gone f) (sym (o.1 ∙ a.1)) (gone (on.areas size head)))
 
 pub outcome : (z : Sizes) (d e : Disk) (t : Told StoreRefusal Contents) → Runs one (opening z 8192) d t e → Outcome z d t e
 outcome z d e t r = let h = halves (heading z) after (subst (λ p. Runs one p d t e) (bind_bind (heading z) _ _) r) in by (headed z h.first) h.rest
@@ -189,24 +190,24 @@ outcome z d e t r = let h = halves (heading z) after (subst (λ p. Runs one p d 
 
     by : {u : Told StoreRefusal ChunkSize} {m : Disk} → Due (0 < d.count) d (header_found z (image d 0)) upward u m → Runs one (after u) m t e → Outcome z d t e
     by {u} {m} (given is same) q = sized (header_found z (image d 0)) refl (subst₂ (λ u y. Runs one (after u) y t e) is same q)
-    by {u} {m} (stopped f is same gone) q =
+    by {u} {m} (stopped f own is same gone) q =
         let o = run_over (subst (λ u. Runs one (after u) m t e) is q) in
-        unread f o.0 (ap (λ y. y.cells) o.1 ∙ same) (λ on. subst (Gone f) (sym o.1) (gone on.header))
+        unread f (subst (Own f) (sym o.1) own) o.0 (ap (λ y. y.cells) o.1 ∙ same) (λ on. subst (Gone f) (sym o.1) (gone on.header))
 
 pub opening_finds : OpeningFinds
 opening_finds z d e t r = by (outcome z d e t r)
   where
-    by : Outcome z d t e → (t ≡ found z (image d)) ⊎ ((f : Refusal) × (t ≡ refused (up f)))
-    by (unread f is same gone) = inr (f, is)
+    by : Outcome z d t e → (t ≡ found z (image d)) ⊎ ((f : Refusal) × Own f e × (t ≡ refused (up f)))
+    by (unread f own is same gone) = inr (f, own, is)
     by (declined f none is same) = inl (is ∙ sym none)
     by (ran size x head scan (went run is)) = inl (is ∙ sym (found_by z (image d) size _ head scan))
-    by (ran size x head scan (broke f run is)) = inr (f, is)
+    by (ran size x head scan (broke f run is)) = inr (f, run_own (cleaning (sectors size) x) (cleaning_upright (sectors size) x) run.fates d e f run.comes, is)
 
 pub opening_refused : OpeningRefused
 opening_refused z d e t f no_list r = by (outcome z d e t r)
   where
     by : Outcome z d t e → e.cells ≡ d.cells
-    by (unread r is same gone) = same
+    by (unread r own is same gone) = same
     by (declined g is answer same) = ap (λ y. y.cells) same
     by (ran size x head scan h) = cc (found_by z (image d) size (good x) head scan)
 
@@ -215,7 +216,7 @@ pub good_finds : (z : Sizes) (d e : Disk) (c : Contents) → Runs one (opening z
 good_finds z d e c r = by (outcome z d e (good c) r)
   where
     by : Outcome z d (good c) e → found z (image d) ≡ good c
-    by (unread f is same gone) = cc
+    by (unread f own is same gone) = cc
     by (declined f none is same) = cc
     by (ran size x head scan (went run is)) = found_by z (image d) size (good x) head scan ∙ sym is
     by (ran size x head scan (broke f run is)) = cc

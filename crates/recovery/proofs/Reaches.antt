@@ -117,6 +117,6 @@ opening_answers z d e t same some long r = by (outcome z d e t r)
     cleans size x is k (broke f run answer) = ⊎_elim (λ g. not_good (sym g.0)) (λ g. let same : g.0 ≡ f = cc in gone_says f answer (subst (λ y. Gone y e) same g.2)) (ends size x k (refused f) run)
 
     by : Outcome z d t e → Answer
-    by (unread f is cells gone) = gone_says f is (gone (reached z d same some))
+    by (unread f own is cells gone) = gone_says f is (gone (reached z d same some))
     by (declined f none is kept) = inl (is ∙ sym none, ap (λ y. y.on) kept)
     by (ran size x head scan h) = cleans size x (found_by z (image d) size (good x) head scan) (known z size x.table d same (record { head = head; ending = x; list = refl; scan = scan })) h

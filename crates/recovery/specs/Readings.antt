@@ -1,5 +1,5 @@
 -- What opening finds, as one function of what the sectors of a COW device read.
-use Rattle.std.specs.Prelude.{◌≡◌, ℕ, zero, suc, ◌+◌, ◌<◌, false, ◌⊎◌, List, [], ◌++◌, length}
+use Rattle.std.specs.Prelude.{◌≡◌, ℕ, zero, suc, ◌+◌, ◌<◌, ◌≤◌, false, ◌⊎◌, List, [], ◌++◌, length}
 use Rattle.device.specs.Disk.{Bytes, Disk, Told, good, refused, Refusal, refusal}
 use Rattle.device.specs.Plans.{Runs, one}
 use Rattle.layout.specs.declared.exception.Exception.{Exception}
@@ -41,9 +41,15 @@ next (refused f) k = refused f
 abbrev pub found : Sizes → Image → Told StoreRefusal Contents
 found z m = next (header_found z (m 0)) (λ size. next (scanned (shape_of z size) m most_areas 0 []) (λ e. good (record { size = size; table = e.table })))
 
+-- a refusal that a device gives, and the device after it: for length (1); for a sector that it has not (2); or it is gone (3)
+pub data Own (r : Refusal) (e : Disk) : Type 0 where
+  for_length : r ≡ refusal 1 0 → Own r e
+  for_place : (p : ℕ) → r ≡ refusal 2 p → e.count ≤ p → Own r e
+  for_gone : (p : ℕ) → r ≡ refusal 3 p → e.on ≡ false → Own r e
+
 -- an image opens exactly when it obeys this, and with exactly these exceptions, unless the device itself refuses a call
 abbrev pub OpeningFinds : Type 0
-OpeningFinds = (z : Sizes) (d e : Disk) (t : Told StoreRefusal Contents) → Runs one (opening z 8192) d t e → (t ≡ found z (image d)) ⊎ ((r : Refusal) × (t ≡ refused (up r)))
+OpeningFinds = (z : Sizes) (d e : Disk) (t : Told StoreRefusal Contents) → Runs one (opening z 8192) d t e → (t ≡ found z (image d)) ⊎ ((r : Refusal) × Own r e × (t ≡ refused (up r)))
 
 -- The same, unless the device is gone or goes: then the opening is refused so (3). It asks that the device has these sectors, one or
 -- more, and that each reads as 512 bytes.

@@ -9,8 +9,9 @@ ghost use Rattle.recovery.specs.Holding.{FindsWhatItHolds, PicturesHold};
 ghost use Rattle.recovery.specs.Readings.{OpeningAnswers, OpeningFinds, OpeningRefused};
 ghost use Rattle.recovery.specs.Standing.{StandingLies, StandingOpens};
 
-// Opening answers what the sectors read, by one definition, unless a device refuses a call. One with
-// all its sectors refuses only as it is gone. An image that opening refuses it leaves as it is.
+// Opening answers what the sectors read, by one definition, unless the device refuses a call for its own
+// reasons (1, 2 or 3). One with all its sectors refuses only as it is gone (3). An image that opening
+// refuses it leaves as it is.
 pub fn opening_finds_what_is_there()
     ensures finds { OpeningFinds }
     ensures answers { OpeningAnswers }
