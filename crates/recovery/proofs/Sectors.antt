@@ -11,6 +11,7 @@ use Rattle.layout.specs.Numbers.{le, value}
 use Rattle.layout.proofs.Back.{le_value}
 use Rattle.layout.proofs.Made.{length_entries}
 use Rattle.store.specs.Image.{all_zero}
+use Rattle.recovery.specs.Holding.{EntryWrittenAgain}
 
 abbrev pub Small : Bytes → Type 0
 Small b = AllByRecursion (λ x. x < 256) b
@@ -23,11 +24,16 @@ number_bytes b i n small room is =
     let same : value (take 8 (drop i b)) ≡ n = ap (λ k. value (take k (drop i b))) (sym span) ∙ is in
     sym (le_value (take 8 (drop i b)) (All-take _ 8 (drop i b) (All-drop _ i b small))) ∙ ap₂ le size same
 
+pub entry_written_again : EntryWrittenAgain
+entry_written_again b i small room =
+    let x = entry_from b i in
+    let span : 16 ≡ i + 16 - i = omega arith in
+    let cut : take 16 (drop i b) ≡ take 8 (drop i b) ++ take 8 (drop (i + 8) b) = take-add 8 8 (drop i b) ∙ ap (λ l. take 8 (drop i b) ++ take 8 l) (drop-drop 8 i b) in
+    sym (ap (λ n. take n (drop i b)) (sym span) ∙ cut ∙ ap₂ ◌++◌ (number_bytes b i x.old small (omega arith) refl) (number_bytes b (i + 8) x.new small (omega arith) refl))
+
 -- the first sixteen bytes, by the entry that they read as
 entry_bytes : (b : Bytes) (x : Exception) → Small b → 16 ≤ length b → entry_from b 0 ≡ x → take 16 b ≡ entry x
-entry_bytes b x small room is =
-    let cut : take 16 b ≡ take 8 b ++ take 8 (drop 8 b) = take-add 8 8 b in
-    cut ∙ ap₂ ◌++◌ (number_bytes b 0 x.old small (omega arith) (ap (λ e. e.old) is)) (number_bytes b 8 x.new small (omega arith) (ap (λ e. e.new) is))
+entry_bytes b x small room is = sym (entry_written_again b 0 small room) ∙ ap entry is
 
 entry_later : (b : Bytes) (r : ℕ) → entry_from (drop 16 b) (16 * r) ≡ entry_from b (16 * suc r)
 entry_later b r =

@@ -2,15 +2,16 @@
 use Rattle.std.proofs.Common.{◌≡◌, ◌+◌, ◌*◌, true, List, [], sym, refl, ap, ◌∙◌, subst}
 use Rattle.std.proofs.lemmas.Bool.{cond-true}
 use Rattle.device.specs.Disk.{good}
+use Rattle.device.proofs.Possible.{last_has}
 use Rattle.layout.specs.declared.chunk.ChunkSize.{ChunkSize}
 use Rattle.layout.specs.declared.exception.Exception.{Exception}
-use Rattle.layout.specs.Chunks.{sectors}
+use Rattle.layout.specs.Chunks.{sectors, area_start}
 use Rattle.store.specs.Image.{Sizes, well_shaped, header_judged, header_found}
 use Rattle.store.specs.Scanning.{most_areas}
 use Rattle.store.specs.Steps.{shape_of}
-use Rattle.recovery.specs.Readings.{Image, scanned, next}
+use Rattle.recovery.specs.Readings.{Image, image, scanned, next}
 use Rattle.recovery.specs.Holding.{FoundAgain, Pictured}
-use Rattle.recovery.specs.Standing.{ValidHeader, Finds, StandingOpens, StandingLies}
+use Rattle.recovery.specs.Standing.{ValidHeader, Finds, StandingOpens, StandingLies, StandingAlone}
 use Rattle.recovery.proofs.Finds.{finds_what_it_holds}
 use Rattle.recovery.proofs.Legible.{pic_small}
 use Rattle.recovery.proofs.Sectors.{Small}
@@ -35,3 +36,11 @@ standing_lies z size es m listed stand =
 
 pub standing_opens : StandingOpens
 standing_opens z size es m listed stand = (standing_lies z size es m listed stand).finds
+
+pub standing_alone : StandingAlone
+standing_alone z size es d stands = record {
+  head = λ b has. sym (stands.single b has);
+  areas = λ a q b l le has.
+      let s = area_start (sectors size) a + q in
+      (stands.sectors s b has).areas a q l le refl ∙ sym ((stands.sectors s (image d s) (last_has (d.cells s))).areas a q l le refl);
+}

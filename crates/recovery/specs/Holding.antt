@@ -1,10 +1,10 @@
 -- Sectors that hold a list of exceptions.
 use Rattle.std.specs.Prelude.{◌≡◌, ℕ, ◌+◌, ◌*◌, ◌<◌, ◌≤◌, false, List, [], length, get_or, take, ◌≢◌, slice_index_or}
-use Rattle.std.specs.List.{AllByRecursion}
-use Rattle.device.specs.Disk.{good}
+use Rattle.std.specs.List.{between, AllByRecursion}
+use Rattle.device.specs.Disk.{Bytes, good}
 use Rattle.layout.specs.declared.exception.Exception.{Exception}
 use Rattle.layout.specs.Chunks.{per_area, area_start}
-use Rattle.layout.specs.Entries.{nothing, nth_entry, pic, Fits}
+use Rattle.layout.specs.Entries.{nothing, entry, entry_from, nth_entry, pic, Fits}
 use Rattle.exceptions.specs.Table.{entries_at_most}
 use Rattle.store.specs.declared.shape.Shape.{Shape}
 use Rattle.store.specs.Judge.{width, damaged}
@@ -41,3 +41,7 @@ pub record Pictured (s : Shape) (m : Image) (es : List Exception) : Type 0 where
 -- pictures hold their list
 abbrev pub PicturesHold : Type 0
 PicturesHold = (s : Shape) (m : Image) (es : List Exception) → AllByRecursion Fits es → Pictured s m es → Holds s m es
+
+-- bytes that were read as an entry are written again as they were
+abbrev pub EntryWrittenAgain : Type 0
+EntryWrittenAgain = (b : Bytes) (i : ℕ) → AllByRecursion (λ x. x < 256) b → i + 16 ≤ length b → entry (entry_from b i) ≡ between i (i + 16) b

@@ -11,7 +11,7 @@ use Rattle.store.specs.declared.shape.Shape.{Shape}
 use Rattle.store.specs.Image.{Sizes, well_shaped}
 use Rattle.store.specs.Judge.{width}
 use Rattle.store.specs.Steps.{shape_of}
-use Rattle.recovery.specs.Readings.{Image, found}
+use Rattle.recovery.specs.Readings.{Image, image, found}
 use Rattle.recovery.specs.Holding.{Sound}
 
 -- every possibility of every sector is allowed
@@ -38,6 +38,15 @@ pub record Stands (z : Sizes) (size : ChunkSize) (es : List Exception) (d : Disk
   pub listed : Listed z size es
   pub sectors : Within (Standing (shape_of z size) es) d
   pub single : (b : Bytes) → Has (possibilities (d.cells 0)) b → (d.cells 0).latest ≡ b
+
+-- the header's sector, and each sector of the areas up to the one with the end entry, has one possibility, which it reads
+pub record Alone (size : ChunkSize) (es : List Exception) (d : Disk) : Type 0 where
+  pub head : (b : Bytes) → Has (possibilities (d.cells 0)) b → b ≡ image d 0
+  pub areas : (a q : ℕ) (b : Bytes) → q < sectors size → per_area (sectors size) * a ≤ length es → Has (possibilities (d.cells (area_start (sectors size) a + q))) b → b ≡ image d (area_start (sectors size) a + q)
+
+-- where a list stands they have
+abbrev pub StandingAlone : Type 0
+StandingAlone = (z : Sizes) (size : ChunkSize) (es : List Exception) (d : Disk) → Stands z size es d → Alone size es d
 
 -- how a list may be there in an image: Finds, or Lies, which says more
 abbrev pub Presence : Type 1

@@ -5,9 +5,9 @@
 ghost use Rattle.recovery.specs.Breaks.{CutSure, DroppingBreaks, DroppingLies, DroppingStands, EnteringBreaks, EnteringLies, EnteringListed, EnteringOrder, EnteringStands, LegibleStands, MakingBreaks, MakingLies, MakingStands, OpeningBreaks, OpeningLies, OpeningStanding, OpeningStands, SpoilingBreaks, SpoilingLies};
 ghost use Rattle.recovery.specs.Calls.{DropBreaks, DropLies, DropStands, EnterBreaks, EnterLies, EnterStands, MakeBreaks, MakeLies, MakeStands, SpoilBreaks, SpoilLies, SpoilStays};
 ghost use Rattle.recovery.specs.Data.{CallsKeepData, DataCallsKeepList, DataWrites};
-ghost use Rattle.recovery.specs.Holding.{FindsWhatItHolds, PicturesHold};
+ghost use Rattle.recovery.specs.Holding.{EntryWrittenAgain, FindsWhatItHolds, PicturesHold};
 ghost use Rattle.recovery.specs.Readings.{OpeningAnswers, OpeningFinds, OpeningRefused};
-ghost use Rattle.recovery.specs.Standing.{StandingLies, StandingOpens};
+ghost use Rattle.recovery.specs.Standing.{StandingAlone, StandingLies, StandingOpens};
 
 // Opening answers what the sectors read, by one definition, unless the device refuses a call for its own
 // reasons (1, 2 or 3). One with all its sectors refuses only as it is gone (3). An image that opening
@@ -31,13 +31,16 @@ pub fn opening_survives_cuts()
     ensures standing { OpeningStanding }
 {}
 
-// A list that the sectors hold is found; the pictures of a list hold it; and what stands on a
-// device is found, in sectors that hold bytes.
+// A list that the sectors hold is found; the pictures of a list hold it, and the bytes of an entry are
+// those that it is written with; and what stands on a device is found, in sectors that hold bytes. The
+// header's sector and those of its areas have one possibility each.
 pub fn what_stands_is_found()
     ensures found { FindsWhatItHolds }
     ensures pictures { PicturesHold }
+    ensures entry { EntryWrittenAgain }
     ensures standing { StandingOpens }
     ensures lies { StandingLies }
+    ensures alone { StandingAlone }
 {}
 
 // After a good making an empty list stands. Broken off anywhere, and after any power cut, all is as
