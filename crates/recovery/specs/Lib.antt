@@ -4,3 +4,4 @@ pub mod Standing
 pub mod Breaks
 pub mod Calls
 pub mod Data
+pub mod Examples
