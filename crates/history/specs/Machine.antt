@@ -367,7 +367,7 @@ pub record Agrees (p : Plain) (d : Disks) : Type 0 where
 -- HISTORIES
 
 -- the machine goes along with a history, from m₀ to m: each answer is the expected one; it reads as the devices do, unless a call is
--- under way; and a call is under way only where a device is gone
+-- under way; and a call is under way only where a device is gone. A making that is refused is refused as expected, and changes nothing
 abbrev pub Simulates : Machine → {start w : Situation} → History start w → Machine → Type 0
 Simulates m₀ begun m = m ≡ m₀
 Simulates m₀ (next_call h c a after x) m =

@@ -213,7 +213,7 @@ pub record Protected (m : Machine) (start : Situation) : Type 0 where
   pub invalid_for_good : StaysInvalid start
   pub along : {w : Situation} (h : History start w) → (e : Machine) × Simulates m h e
 
--- a snapshot made on any two devices is protected
+-- a snapshot made on any two devices is protected, and the making left the origin's readings as they were
 abbrev pub CrashSafe : Type 0
 CrashSafe =
     (c : ℕ) (d : Disks) (start : Situation) → Whole d.origin → Whole d.cow → Made c d start →
