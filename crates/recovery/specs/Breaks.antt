@@ -149,8 +149,8 @@ OpeningStanding =
     (z : Sizes) (size : ChunkSize) (es : List Exception) (d e : Disk) (t : Told StoreRefusal Contents) →
     Stands z size es d → Runs one (opening z 8192) d t e → e.cells ≡ d.cells
 
--- entering writes the entry only once all data lasts: broken off before that, each possibility is one that the old list allows;
--- after it, a data sector has one possibility, what it read before
+-- entering, wherever it breaks off: each possibility of each sector is one that the old list allows, or each data sector has one
+-- possibility, what it read before; so once the entry is possible, all data lasts
 abbrev pub EnteringOrder : Type 0
 EnteringOrder =
     (z : Sizes) (size : ChunkSize) (es : List Exception) (x : Exception) (d e : Disk) (t : Told Refusal (Unit {0})) →

@@ -33,7 +33,7 @@ pub record Listed (z : Sizes) (size : ChunkSize) (es : List Exception) : Type 0 
   pub sound : Sound (shape_of z size) es
   pub fits : AllByRecursion Fits es
 
--- a list stands on a device: whatever a power cut leaves, opening finds it; every sector of header and areas has one possibility
+-- a list stands on a device: whatever a power cut leaves, opening finds it; the header's sector has one possibility
 pub record Stands (z : Sizes) (size : ChunkSize) (es : List Exception) (d : Disk) : Type 0 where
   pub listed : Listed z size es
   pub sectors : Within (Standing (shape_of z size) es) d

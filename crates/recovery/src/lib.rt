@@ -57,7 +57,7 @@ pub fn making_survives_cuts()
 // What the store enters makes a list that an opening takes. After a good entering that list
 // stands. Broken off anywhere, and after any power cut, the list is found with or without the new
 // exception, in sectors that hold bytes. The same of the store's own call, which chooses the place.
-// The entry is written only once all data lasts.
+// Once the entry is possible, all data lasts.
 pub fn entering_survives_cuts()
     ensures listed { EnteringListed }
     ensures stands { EnteringStands }
