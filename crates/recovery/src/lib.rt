@@ -9,9 +9,9 @@ ghost use Rattle.recovery.specs.Holding.{EntryWrittenAgain, FindsWhatItHolds, Pi
 ghost use Rattle.recovery.specs.Readings.{OpeningAnswers, OpeningFinds, OpeningRefused};
 ghost use Rattle.recovery.specs.Standing.{StandingAlone, StandingLies, StandingOpens};
 
-// Opening answers what the sectors read, by one definition, unless the device refuses a call for its own
-// reasons (1, 2 or 3). One with all its sectors refuses only as it is gone (3). An image that opening
-// refuses it leaves as it is.
+// Opening answers what the sectors read, by one definition, unless the device refuses a call, with a
+// number of its own (1, 2 or 3). One with all its sectors refuses only as it is gone. An image that
+// opening refuses it leaves as it is.
 pub fn opening_finds_what_is_there()
     ensures finds { OpeningFinds }
     ensures answers { OpeningAnswers }
@@ -31,9 +31,9 @@ pub fn opening_survives_cuts()
     ensures standing { OpeningStanding }
 {}
 
-// A list that the sectors hold is found; the pictures of a list hold it, and the bytes of an entry are
-// those that it is written with; and what stands on a device is found, in sectors that hold bytes. The
-// header's sector and those of its areas have one possibility each.
+// A list that the sectors hold is found; the pictures of a list hold it, and an entry is written again
+// as it was read; and what stands on a device is found, in sectors that hold bytes, each of which has
+// one possibility.
 pub fn what_stands_is_found()
     ensures found { FindsWhatItHolds }
     ensures pictures { PicturesHold }
@@ -91,8 +91,8 @@ pub fn dropping_survives_cuts()
     ensures call_lies { DropLies }
 {}
 
-// No call but a data write changes a data sector, and no data call changes the list. A good data write
-// is read back. Good or broken off, it adds its bytes to the possibilities of its own sectors at most.
+// No call but a data write adds to a data sector, and no data call changes the list. A data write adds
+// its bytes to its own sectors at most, and a good one is read back.
 pub fn data_and_list_are_apart()
     ensures sectors { CallsKeepData }
     ensures list { DataCallsKeepList }
