@@ -17,7 +17,7 @@ use Rattle.store.specs.Scanning.{Ending, most_areas}
 use Rattle.store.specs.Steps.{Contents, shape_of, finished, flushing, making, spoiling, dropping, drop_run, data_read, data_write, copy_read, copy_write, chunk_read, chunk_write}
 use Rattle.recovery.specs.Readings.{image}
 use Rattle.recovery.specs.Standing.{Within, Standing, Stands}
-use Rattle.recovery.specs.Data.{IsData, DataKept, CallsKeepData, DataCallsKeepList, at_sector, at_chunk, Written, WrittenWell, DataWrites}
+use Rattle.recovery.specs.Data.{IsData, DataKept, CallsKeepData, DataCallsKeepList, new_in_sector, new_in_chunk, Written, WrittenWell, DataWrites}
 use Rattle.recovery.proofs.Again.{end_of}
 use Rattle.recovery.proofs.Allowed.{Writes, run_within}
 use Rattle.recovery.proofs.Calls.{Did, did, did_run, Entered, declined, tried, entered, lifts}
@@ -114,11 +114,11 @@ written New p x d e puts r = record {
 }
 
 -- a write at one sector puts its bytes there
-only_there : {X : Type 0} (s : ℕ) (bytes : Bytes) (p : Plan (Unit {0}) X) → ((A : ℕ → Bytes → Type 0) → A s bytes → Writes A p) → Puts (at_sector s bytes) p
+only_there : {X : Type 0} (s : ℕ) (bytes : Bytes) (p : Plan (Unit {0}) X) → ((A : ℕ → Bytes → Type 0) → A s bytes → Writes A p) → Puts (new_in_sector s bytes) p
 only_there s bytes p writes A ok = writes A (ok s bytes (refl, refl))
 
 -- and reads them back
-read_there : (c s : ℕ) (bytes : Bytes) {d e : Disk} → Written (at_sector s bytes) d e → IsData c s → image e s ≡ bytes → WrittenWell c (at_sector s bytes) d e
+read_there : (c s : ℕ) (bytes : Bytes) {d e : Disk} → Written (new_in_sector s bytes) d e → IsData c s → image e s ≡ bytes → WrittenWell c (new_in_sector s bytes) d e
 read_there c s bytes {d} {e} within there here = record {
   within = within;
   place = λ t b new. subst (IsData c) (sym new.0) there;
@@ -141,11 +141,11 @@ data_writes = record {
       };
 }
   where
-    data_put : (s : Shape) (at : ℕ) (bytes : Bytes) (d e : Disk) (t : Told StoreRefusal (Unit {0})) → Runs one (data_write s at bytes) d t e → Written (at_sector at bytes) d e
+    data_put : (s : Shape) (at : ℕ) (bytes : Bytes) (d e : Disk) (t : Told StoreRefusal (Unit {0})) → Runs one (data_write s at bytes) d t e → Written (new_in_sector at bytes) d e
     data_put s at bytes d e t r = written _ _ t d e (only_there at bytes (data_write s at bytes) (λ A ok. data_write_writes A s at bytes (λ is. ok))) r
 
-    copy_put : (s : Shape) (k at : ℕ) (bytes : Bytes) (d e : Disk) (t : Told StoreRefusal Bytes) → Runs one (copy_write s k at bytes) d t e → Written (at_sector (in_copy (width s) k at) bytes) d e
+    copy_put : (s : Shape) (k at : ℕ) (bytes : Bytes) (d e : Disk) (t : Told StoreRefusal Bytes) → Runs one (copy_write s k at bytes) d t e → Written (new_in_sector (in_copy (width s) k at) bytes) d e
     copy_put s k at bytes d e t r = written _ _ t d e (only_there (in_copy (width s) k at) bytes (copy_write s k at bytes) (λ A ok. copy_write_writes A s k at bytes (λ is. ok))) r
 
-    chunk_put : (s : Shape) (k : ℕ) (bytes : Bytes) (d e : Disk) (t : Told StoreRefusal (Unit {0})) → Runs one (chunk_write s k bytes) d t e → Written (at_chunk (width s) k bytes) d e
+    chunk_put : (s : Shape) (k : ℕ) (bytes : Bytes) (d e : Disk) (t : Told StoreRefusal (Unit {0})) → Runs one (chunk_write s k bytes) d t e → Written (new_in_chunk (width s) k bytes) d e
     chunk_put s k bytes d e t r = written _ _ t d e (λ A ok. chunk_write_writes A s k bytes (λ i l is. ok _ _ (i, l, refl, refl))) r

@@ -47,13 +47,13 @@ pub record DataCallsKeepList : Type 0 where
   pub chunk_writing : (z : Sizes) (s : Shape) (es : List Exception) (k : ℕ) (bytes : Bytes) (d e : Disk) (t : Told StoreRefusal (Unit {0})) → Stands z s.size es d → Runs one (chunk_write s k bytes) d t e → Stands z s.size es e
   pub flush : (z : Sizes) (size : ChunkSize) (es : List Exception) (d e : Disk) (t : Told StoreRefusal (Unit {0})) → Stands z size es d → Runs one (lifted up (flushing finished)) d t e → Stands z size es e
 
--- the bytes of a write at a sector
-abbrev pub at_sector : ℕ → Bytes → ℕ → Bytes → Type 0
-at_sector at bytes s b = (s ≡ at) × (b ≡ bytes)
+-- the new bytes of a write at a sector: which bytes for which sector
+abbrev pub new_in_sector : ℕ → Bytes → ℕ → Bytes → Type 0
+new_in_sector at bytes s b = (s ≡ at) × (b ≡ bytes)
 
--- the bytes that a write of a whole chunk k, of c sectors, has for each of them
-abbrev pub at_chunk : ℕ → ℕ → Bytes → ℕ → Bytes → Type 0
-at_chunk c k bytes s b = (i : ℕ) × (i < c) × (s ≡ k * c + i) × (b ≡ nth_sector bytes i)
+-- those of a write of the whole chunk k, of c sectors
+abbrev pub new_in_chunk : ℕ → ℕ → Bytes → ℕ → Bytes → Type 0
+new_in_chunk c k bytes s b = (i : ℕ) × (i < c) × (s ≡ k * c + i) × (b ≡ nth_sector bytes i)
 
 -- A write, good or broken off, that has the bytes New for some sectors: a sector has no possibility but those that it had and
 -- these, and any that it has no bytes for reads the same.
@@ -69,9 +69,9 @@ pub record WrittenWell (c : ℕ) (New : ℕ → Bytes → Type 0) (d e : Disk) :
 
 -- what a data write does, wherever it breaks off and where it is good
 pub record DataWrites : Type 0 where
-  pub writing : (s : Shape) (at : ℕ) (bytes : Bytes) (d e : Disk) (t : Told StoreRefusal (Unit {0})) → Runs one (data_write s at bytes) d t e → Written (at_sector at bytes) d e
-  pub written : (s : Shape) (at : ℕ) (bytes : Bytes) (d e : Disk) → Runs one (data_write s at bytes) d (good tt) e → WrittenWell (width s) (at_sector at bytes) d e
-  pub copy_writing : (s : Shape) (k at : ℕ) (bytes : Bytes) (d e : Disk) (t : Told StoreRefusal Bytes) → Runs one (copy_write s k at bytes) d t e → Written (at_sector (in_copy (width s) k at) bytes) d e
-  pub copy_written : (s : Shape) (k at : ℕ) (bytes x : Bytes) (d e : Disk) → Runs one (copy_write s k at bytes) d (good x) e → WrittenWell (width s) (at_sector (in_copy (width s) k at) bytes) d e
-  pub chunk_writing : (s : Shape) (k : ℕ) (bytes : Bytes) (d e : Disk) (t : Told StoreRefusal (Unit {0})) → Runs one (chunk_write s k bytes) d t e → Written (at_chunk (width s) k bytes) d e
-  pub chunk_written : (s : Shape) (k : ℕ) (bytes : Bytes) (d e : Disk) → Runs one (chunk_write s k bytes) d (good tt) e → WrittenWell (width s) (at_chunk (width s) k bytes) d e
+  pub writing : (s : Shape) (at : ℕ) (bytes : Bytes) (d e : Disk) (t : Told StoreRefusal (Unit {0})) → Runs one (data_write s at bytes) d t e → Written (new_in_sector at bytes) d e
+  pub written : (s : Shape) (at : ℕ) (bytes : Bytes) (d e : Disk) → Runs one (data_write s at bytes) d (good tt) e → WrittenWell (width s) (new_in_sector at bytes) d e
+  pub copy_writing : (s : Shape) (k at : ℕ) (bytes : Bytes) (d e : Disk) (t : Told StoreRefusal Bytes) → Runs one (copy_write s k at bytes) d t e → Written (new_in_sector (in_copy (width s) k at) bytes) d e
+  pub copy_written : (s : Shape) (k at : ℕ) (bytes x : Bytes) (d e : Disk) → Runs one (copy_write s k at bytes) d (good x) e → WrittenWell (width s) (new_in_sector (in_copy (width s) k at) bytes) d e
+  pub chunk_writing : (s : Shape) (k : ℕ) (bytes : Bytes) (d e : Disk) (t : Told StoreRefusal (Unit {0})) → Runs one (chunk_write s k bytes) d t e → Written (new_in_chunk (width s) k bytes) d e
+  pub chunk_written : (s : Shape) (k : ℕ) (bytes : Bytes) (d e : Disk) → Runs one (chunk_write s k bytes) d (good tt) e → WrittenWell (width s) (new_in_chunk (width s) k bytes) d e
