@@ -4,3 +4,4 @@ pub mod Image
 pub mod Scanning
 pub mod Steps
 pub mod Answers
+pub mod Work

@@ -11,6 +11,8 @@ mod spot;
 mod store;
 #[cfg(test)]
 mod tests;
+mod work;
 
 pub use fault::StoreFault;
 pub use store::{Store, WORK};
+pub use work::Work;

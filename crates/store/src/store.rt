@@ -10,11 +10,13 @@ ghost use Rattle.store.specs.Answers.{told, gave};
 ghost use Rattle.store.specs.Judge.{on_data};
 ghost use Rattle.store.specs.Refusals.{because, up};
 ghost use Rattle.store.specs.Steps.{shape_heading, opening, finished, flushing, making, spoiling, shaped, in_chunks, enter, drop_run, data_test, data_read, data_write, copy_read, copy_write, chunk_read, chunk_write};
+ghost use Rattle.store.specs.Work.{spent};
 
 use crate::fault::StoreFault;
 use crate::open::{load, read_header};
 use crate::sectors::{drop_to, enter_last, make, spoil};
 use crate::shape::Shape;
+use crate::work::Work;
 use device::{Device, SECTOR, read_sectors, write_sectors};
 use exceptions::ExceptionTable;
 use layout::{ChunkSize, Exception};
@@ -70,11 +72,24 @@ impl<C: Device> Store<C> {
         ensures call { Runs one (opening (record { origin = origin; cow = (C.disk self.old.cow).count }) (length work.old)) (C.disk self.old.cow) (told result (record { size = self.new.size; table = (listed self.new.table) })) (C.disk self.new.cow) }
         ensures size { OnErr result (self.new.size ≡ self.old.size) }
         ensures table { OnErr result (listed self.new.table ≡ []) }
+        ensures work { work.new ≡ spent work.old }
     {
         self.table.clear();
         if work.len() != WORK {
             return Err(StoreFault::Length);
         }
+        let guard = Work { bytes: work };
+        self.open_in(origin, guard.bytes)
+    }
+
+    // Opens into an empty table, in a work buffer of the right length.
+    fn open_in(&mut self, origin: u32, work: &mut [u8]) -> Result<(), StoreFault>
+        requires whole { length work.old ≡ 8192 }
+        requires empty { listed self.old.table ≡ [] }
+        ensures call { Runs one (opening (record { origin = origin; cow = (C.disk self.old.cow).count }) 8192) (C.disk self.old.cow) (told result (record { size = self.new.size; table = (listed self.new.table) })) (C.disk self.new.cow) }
+        ensures size { OnErr result (self.new.size ≡ self.old.size) }
+        ensures table { OnErr result (listed self.new.table ≡ []) }
+    {
         let shape = self.read_shape(origin)?;
         let area = SECTOR * shape.size.sectors() as usize;
         if let Err(fault) = load(&mut self.cow, &mut self.table, shape, &mut work[..area]) {

@@ -2,7 +2,7 @@ use Rattle.std.proofs.Common.{◌≡◌, ◌≤◌, false, length, take, is_some
 use Rattle.std.proofs.lemmas.List.{take_at}
 use Rattle.device.specs.Disk.{good, refused}
 use Rattle.store.specs.Answers.{numbers}
-use Rattle.device.proofs.Steps.{same, ◌⨾◌, ran, ends, ends_as}
+use Rattle.device.proofs.Steps.{same, ◌⨾◌, ran, ends_as}
 use Rattle.layout.specs.Chunks.{sectors}
 use Rattle.exceptions.specs.Table.{lookup}
 use Rattle.store.specs.Steps.{shaped}
