@@ -7,7 +7,7 @@ ghost use Rattle.store.specs.Image.{all_zero};
 ghost use Rattle.store.specs.Scanning.{ending};
 ghost use Rattle.store.specs.Steps.{cleaning};
 
-use crate::sectors::write_lasting;
+use crate::lasting::write_lasting;
 use crate::shape::area_sector;
 use crate::spot::Spot;
 use device::{Device, DeviceFault, SECTOR};

@@ -2,7 +2,9 @@
 #![tactic(auto)]
 
 mod clean;
+mod enter;
 mod fault;
+mod lasting;
 mod open;
 mod scan;
 mod sectors;

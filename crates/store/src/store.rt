@@ -12,9 +12,10 @@ ghost use Rattle.store.specs.Refusals.{because, up};
 ghost use Rattle.store.specs.Steps.{shape_heading, opening, finished, flushing, making, spoiling, shaped, in_chunks, enter, drop_run, data_test, data_read, data_write, copy_read, copy_write, chunk_read, chunk_write};
 ghost use Rattle.store.specs.Work.{spent};
 
+use crate::enter::enter_last;
 use crate::fault::StoreFault;
 use crate::open::{load, read_header};
-use crate::sectors::{drop_to, enter_last, make, spoil};
+use crate::sectors::{drop_to, make, spoil};
 use crate::shape::Shape;
 use crate::work::Work;
 use device::{Device, SECTOR, read_sectors, write_sectors};

@@ -4,7 +4,7 @@ use Rattle.layout.specs.Chunks.{sectors}
 use Rattle.layout.specs.Entries.{pic}
 use Rattle.store.specs.Steps.{entering}
 use Rattle.store.proofs.Writes.{stored}
-use Rattle.store.proofs.sectors.enter_last.Goals as goal
+use Rattle.store.proofs.enter.enter_last.Goals as goal
 
 pub returns-in_err-prepare : goal.returns-in_err-prepare
 returns-in_err-prepare g c =

@@ -1,5 +1,5 @@
 use Rattle.device.proofs.Steps.{◌⨾◌, called, ran, ends, ends_as, passed_on}
-use Rattle.store.proofs.sectors.write_lasting.Goals as goal
+use Rattle.store.proofs.lasting.write_lasting.Goals as goal
 
 pub returns-in_err-write_sectors : goal.returns-in_err-write_sectors
 returns-in_err-write_sectors g c = ends_as (passed_on c.from_residual.result tt _ c.from_residual.ensures.1) (ran _ c.in_err-write_sectors.ensures)
