@@ -1,4 +1,4 @@
--- What opening finds on a COW device: one function of what its sectors read.
+-- What the first sector of a COW device says by the sizes of both devices, and an area's bytes once they are cleaned.
 use Rattle.std.specs.Prelude.{ℕ, ◌-◌, ◌*◌, ◌/◌, ◌%◌, Bool, cond, ◌&&◌, ◌++◌, length, take, replicate, ◌==◌, nat_le}
 use Rattle.std.specs.List.{list_all}
 use Rattle.device.specs.Disk.{Bytes, Told, good, refused}

@@ -5,3 +5,4 @@ pub mod Scanning
 pub mod Steps
 pub mod Answers
 pub mod Work
+pub mod Examples
