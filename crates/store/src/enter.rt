@@ -14,6 +14,8 @@ use device::{Device, DeviceFault, write_zeros};
 use exceptions::{ExceptionTable, fills_area};
 use layout::{ChunkSize, ENTRIES, picture};
 
+// Device and size go as two below, as in `sectors`.
+
 // Zeros over the next area where exception number `n` fills its own.
 fn prepare<D: Device>(device: &mut D, size: ChunkSize, n: u32) -> Result<(), DeviceFault>
     requires { n < 2048 }

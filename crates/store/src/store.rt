@@ -68,7 +68,7 @@ impl<C: Device> Store<C> {
         Ok(())
     }
 
-    // Opens what stands on the device, for an origin of so many sectors; the work buffer is `WORK` bytes.
+    // Opens what stands on the device, for an origin of so many sectors; the work buffer is `WORK` bytes, and zeros again afterwards.
     pub fn open(&mut self, origin: u32, work: &mut [u8]) -> Result<(), StoreFault>
         ensures call { Runs one (opening (record { origin = origin; cow = (C.disk self.old.cow).count }) (length work.old)) (C.disk self.old.cow) (told result (record { size = self.new.size; table = (listed self.new.table) })) (C.disk self.new.cow) }
         ensures size { OnErr result (self.new.size ≡ self.old.size) }
