@@ -1,0 +1,26 @@
+-- The code's refusals by their numbers.
+use Rattle.std.specs.Prelude.{ℕ, Ok, Err, Result}
+use Rattle.device.specs.Disk.{Told, good, refused, refusal}
+use Rattle.device.specs.Plans.{origin}
+use Rattle.device.specs.Answers.{number, where_at}
+use Rattle.store.specs.Answers.{numbers as store_numbers}
+use Rattle.history.specs.Faults.{Fault, fault, pair_fault, store_up, passed_up}
+use Rattle.snapshot.specs.declared.fault.Fault.{Fault as CodeFault}
+use Rattle.snapshot.specs.declared.fault.Fault.TheVariants.{Origin, Store, Length, Sector, State, Stopped, Invalid, ChunkSize, Misshaped}
+
+-- each refusal's numbers
+abbrev pub numbers : CodeFault → Fault
+numbers (Origin f) = passed_up origin (refusal (number f) (where_at f))
+numbers (Store f) = store_up (store_numbers f)
+numbers Length = pair_fault 1
+numbers (Sector s) = fault 2 3 0 s 0
+numbers State = pair_fault 4
+numbers Stopped = pair_fault 5
+numbers Invalid = pair_fault 6
+numbers (ChunkSize n) = pair_fault 8
+numbers Misshaped = pair_fault 9
+
+-- an answer, with what a good one gives
+abbrev pub told : {A B : Type 0} → Result A CodeFault → B → Told Fault B
+told (Ok _) b = good b
+told (Err e) b = refused (numbers e)
