@@ -24,3 +24,7 @@ numbers Misshaped = pair_fault 9
 abbrev pub told : {A B : Type 0} → Result A CodeFault → B → Told Fault B
 told (Ok _) b = good b
 told (Err e) b = refused (numbers e)
+
+-- an answer that gives nothing
+abbrev pub answered : Result (Unit {0}) CodeFault → Told Fault (Unit {0})
+answered r = told r tt

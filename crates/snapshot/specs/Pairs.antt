@@ -1,16 +1,44 @@
 -- What a pair means.
-use Rattle.std.specs.Prelude.{List}
+use Rattle.std.specs.Prelude.{List, Some, None, Ok, Err, Option, Result}
 use Rattle.device.specs.Disk.{Disk}
-use Rattle.device.specs.Plans.{pair}
+use Rattle.device.specs.Plans.{Disks, pair}
 use Rattle.layout.specs.declared.chunk.ChunkSize.{ChunkSize}
 use Rattle.layout.specs.declared.exception.Exception.{Exception}
-use Rattle.history.specs.Steps.{Memory, closed, serving, invalid, plain}
+use Rattle.exceptions.specs.Listed.{listed}
+use Rattle.history.specs.Faults.{Fault}
+use Rattle.history.specs.Steps.{Memory, closed, serving, invalid, plain, Ground, ground}
 use Rattle.history.specs.History.{Situation}
-use Rattle.snapshot.specs.declared.pair.Held.{Held}
-use Rattle.snapshot.specs.declared.pair.Held.TheVariants.{Closed, Open, Invalid}
+use Rattle.snapshot.specs.declared.fault.Fault.{Fault as CodeFault}
+use Rattle.snapshot.specs.declared.state.Held.{Held}
+use Rattle.snapshot.specs.declared.state.Held.TheVariants.{Closed, Open, Invalid}
+use Rattle.snapshot.specs.declared.pair.Pair.{Pair}
+use Rattle.snapshot.specs.Answers.{numbers}
 
 -- what a pair remembers, by what it holds its store for
 abbrev pub memory : Held → ChunkSize → List Exception → Memory
 memory Closed size table = closed
 memory Open size table = serving size table
 memory Invalid size table = invalid
+
+-- below, o and c are what the devices mean
+
+-- the disks of a pair
+abbrev pub disks : {O C : Type 0} → (O → Disk) → (C → Disk) → Pair O C → Disks
+disks o c x = pair (o x.origin) (c x.store.cow)
+
+-- what it remembers
+abbrev pub remembered : {O C : Type 0} → Pair O C → Memory
+remembered x = memory x.held x.store.size (listed x.store.table)
+
+-- what it sees of its devices
+abbrev pub seen : {O C : Type 0} → (O → Disk) → (C → Disk) → Pair O C → Ground
+seen o c x = ground (disks o c x)
+
+-- both together
+abbrev pub situation : {O C : Type 0} → (O → Disk) → (C → Disk) → Pair O C → Situation
+situation o c x = record { disks = disks o c x; memory = remembered x; mode = plain }
+
+-- the answer of a test: nothing, or the refusal
+abbrev pub tested : Result (Unit {0}) CodeFault → Option Fault
+tested (Ok _) = None
+tested (Err e) = Some (numbers e)

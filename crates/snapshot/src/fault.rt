@@ -1,9 +1,8 @@
 // Why a pair refuses.
 ghost use Rattle.std.specs.Prelude.{◌≡◌};
-ghost use Rattle.snapshot.specs.Answers.{numbers};
+ghost use Rattle.snapshot.specs.declared.fault.Fault.TheVariants.{Origin as OfOrigin, Store as OfStore};
 
 use device::DeviceFault;
-use layout::HeaderFault;
 use store::StoreFault;
 
 #[derive(Clone, Copy, Debug, PartialEq, Eq)]
@@ -37,4 +36,20 @@ pub struct FaultNumbers {
     pub device: u32,
     pub place: u64,
     pub entry: u32,
+}
+
+impl From<DeviceFault> for Fault {
+    ghost from_gives = { λ x y. y ≡ OfOrigin x };
+
+    fn from(fault: DeviceFault) -> Fault {
+        Fault::Origin(fault)
+    }
+}
+
+impl From<StoreFault> for Fault {
+    ghost from_gives = { λ x y. y ≡ OfStore x };
+
+    fn from(fault: StoreFault) -> Fault {
+        Fault::Store(fault)
+    }
 }

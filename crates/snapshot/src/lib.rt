@@ -2,7 +2,13 @@
 #![tactic(auto)]
 
 mod fault;
+mod opening;
 mod pair;
+mod reads;
+mod state;
+mod work;
+mod writes;
 
 pub use fault::{Fault, FaultNumbers};
 pub use pair::Pair;
+pub use state::{Held, OriginWrite, State, Status};

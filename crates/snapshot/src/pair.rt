@@ -1,31 +1,19 @@
 // A pair of an origin and the store of its copies.
 ghost use Rattle.std.specs.Prelude.{◌≡◌, ◌&&◌};
-ghost use Rattle.snapshot.specs.declared.pair.Held.TheVariants.{Closed as FreshlyClosed};
+ghost use Rattle.snapshot.specs.declared.state.Held.TheVariants.{Closed as FreshlyClosed};
 
+use crate::state::Held;
 use device::Device;
 use store::Store;
 
-// What a pair holds its store for.
-#[derive(Clone, Copy, Debug, PartialEq, Eq)]
-pub enum Held {
-    // nothing yet
-    Closed,
-    // the snapshot
-    Open,
-    // a snapshot that is lost
-    Invalid,
-}
-
 #[derive(Drop)]
 pub struct Pair<O, C> {
-    origin: O,
-    store: Store<C>,
-    held: Held,
+    pub(crate) origin: O,
+    pub(crate) store: Store<C>,
+    pub(crate) held: Held,
 }
 
 impl<O: Device, C: Device> Pair<O, C> {
-    ghost use Rattle.snapshot.specs.Pairs.{memory};
-
     // Puts a pair together, closed.
     pub fn new(origin: O, store: Store<C>) -> Pair<O, C>
         ensures origin { result.origin ≡ origin }
@@ -48,7 +36,7 @@ impl<O: Device, C: Device> Pair<O, C> {
     }
 
     // Whether both devices are on.
-    fn is_running(&self) -> bool
+    pub(crate) fn is_running(&self) -> bool
         ensures { result ≡ (O.disk self.now.origin).on && (C.disk self.now.store.cow).on }
     {
         self.origin.is_on() && self.store.is_on()

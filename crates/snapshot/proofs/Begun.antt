@@ -1,0 +1,64 @@
+-- The calls of a pair past their tests.
+use Rattle.std.proofs.Common.{◌≡◌, ℕ, Bool, true, false, not, List, ◌∷◌, Some, None, Option, IsErrAnd, Ok, Err, Result, refl, ap, sym, ◌∙◌, subst, eqb, eqb-true}
+use Rattle.device.specs.declared.fault.DeviceFault.{DeviceFault}
+use Rattle.device.specs.Disk.{Bytes, Disk, Told, Refusal, good, refused, refusal, reads, Called}
+use Rattle.device.specs.Answers.{number, where_at}
+use Rattle.device.specs.Plans.{Plan, Side, origin}
+use Rattle.layout.specs.declared.chunk.ChunkSize.{ChunkSize}
+use Rattle.layout.specs.declared.exception.Exception.{Exception}
+use Rattle.store.specs.declared.fault.StoreFault.{StoreFault}
+use Rattle.store.specs.Answers.{numbers as store_numbers}
+use Rattle.history.specs.Faults.{Fault, passed_up, store_up, pair_fault}
+use Rattle.history.specs.Steps.{Memory, Mode, Outcome, Ground, guarded, test, first, sector_length, view_tests, origin_read_tests, view_read_tests}
+use Rattle.history.specs.History.{Reply, as_call}
+use Rattle.snapshot.specs.declared.fault.Fault.{Fault as CodeFault}
+use Rattle.snapshot.specs.declared.fault.Fault.TheVariants.{Origin, Store}
+use Rattle.snapshot.specs.declared.state.Held.{Held}
+use Rattle.snapshot.specs.declared.state.Held.TheVariants.{Closed, Open, Invalid}
+use Rattle.snapshot.specs.Answers.{numbers, told}
+use Rattle.snapshot.specs.Pairs.{memory}
+
+-- no test refused
+pub begun : {A : Type 0} (f : A → Reply) (m : Memory) (mode : Mode) {t : Option Fault} (p : Plan Side (Outcome A)) → None ≡ t → as_call f mode (guarded m t p) ≡ as_call f mode p
+begun f m mode p none = ap (λ t. as_call f mode (guarded m t p)) (sym none)
+
+-- WHAT TESTS THAT REFUSE NOTHING SAY
+
+passes : (b : Bool) (f : Fault) (rest : List (Option Fault)) → None ≡ first (test b f ∷ rest) → (b ≡ false) × (None ≡ first rest)
+passes true f rest h = cc
+passes false f rest h = (refl, h)
+
+sized : (n : ℕ) (rest : List (Option Fault)) → None ≡ first (sector_length n ∷ rest) → (n ≡ 512) × (None ≡ first rest)
+sized n rest h = let x = passes (not (eqb n 512)) (pair_fault 1) rest h in (long (eqb n 512) refl x.0, x.1)
+  where
+    long : (b : Bool) → eqb n 512 ≡ b → not b ≡ false → n ≡ 512
+    long true is h = eqb-true n 512 is
+    long false is h = cc
+
+served : (g : Ground) (held : Held) (size : ChunkSize) (table : List Exception) (s : ℕ) → None ≡ first (view_tests g (memory held size table) s) → held ≡ Open
+served g Closed size table s h = let x : true ≡ false = (passes true (pair_fault 4) _ (passes g.stopped (pair_fault 5) _ h).1).0 in cc
+served g Open size table s h = refl
+served g Invalid size table s h = let x : true ≡ false = (passes true (pair_fault 6) _ (passes false (pair_fault 4) _ (passes g.stopped (pair_fault 5) _ h).1).1).0 in cc
+
+-- of an origin read: its buffer is 512 bytes
+pub origin_long : (g : Ground) (m : Memory) (s n : ℕ) → None ≡ origin_read_tests g m s n → n ≡ 512
+origin_long g m s n h = (sized n _ h).0
+
+-- of a snapshot read: its buffer is 512 bytes, and the pair is open
+pub view_opens : (g : Ground) (held : Held) (size : ChunkSize) (table : List Exception) (s n : ℕ) → None ≡ view_read_tests g (memory held size table) s n → (n ≡ 512) × (held ≡ Open)
+view_opens g held size table s n h = let x = sized n _ h in (x.0, served g held size table s x.1)
+
+-- WHAT A DEVICE AND THE STORE ANSWER
+
+pub read_as : {n s : ℕ} {d e : Disk} {t : Told Refusal Bytes} → n ≡ 512 → Called (reads n s) d t e → Called (reads 512 s) d t e
+read_as {s = s} {d = d} {e = e} {t = t} is c = subst (λ n. Called (reads n s) d t e) is c
+
+-- what `?` returns where the origin refused with y
+pub origin_passed : {A B : Type 0} (r : Result A CodeFault) (b : B) (y : DeviceFault) → IsErrAnd r (λ x. x ≡ Origin y) → told r b ≡ refused (passed_up origin (refusal (number y) (where_at y)))
+origin_passed (Ok a) b y h = absurd h
+origin_passed (Err x) b y h = ap (λ z. refused (numbers z)) h
+
+-- and where the store did
+pub store_passed : {A B : Type 0} (r : Result A CodeFault) (b : B) (y : StoreFault) → IsErrAnd r (λ x. x ≡ Store y) → told r b ≡ refused (store_up (store_numbers y))
+store_passed (Ok a) b y h = absurd h
+store_passed (Err x) b y h = ap (λ z. refused (numbers z)) h
