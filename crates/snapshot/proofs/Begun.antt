@@ -1,5 +1,5 @@
 -- The calls of a pair past their tests.
-use Rattle.std.proofs.Common.{◌≡◌, ℕ, Bool, true, false, not, List, ◌∷◌, Some, None, Option, IsErrAnd, Ok, Err, Result, refl, ap, sym, ◌∙◌, subst, eqb, eqb-true}
+use Rattle.std.proofs.Common.{◌≡◌, ℕ, Bool, true, false, not, List, [], ◌∷◌, Some, None, Option, IsErrAnd, Ok, Err, Result, refl, ap, sym, ◌∙◌, subst, eqb, eqb-true}
 use Rattle.device.specs.declared.fault.DeviceFault.{DeviceFault}
 use Rattle.device.specs.Disk.{Bytes, Disk, Told, Refusal, good, refused, refusal, reads, Called}
 use Rattle.device.specs.Answers.{number, where_at}
@@ -9,7 +9,7 @@ use Rattle.layout.specs.declared.exception.Exception.{Exception}
 use Rattle.store.specs.declared.fault.StoreFault.{StoreFault}
 use Rattle.store.specs.Answers.{numbers as store_numbers}
 use Rattle.history.specs.Faults.{Fault, passed_up, store_up, pair_fault}
-use Rattle.history.specs.Steps.{Memory, Mode, Outcome, Ground, guarded, test, first, sector_length, view_tests, origin_read_tests, view_read_tests}
+use Rattle.history.specs.Steps.{Memory, Mode, Outcome, Ground, guarded, test, first, sector_length, not_stopped, opened, on_origin, view_tests, origin_read_tests, view_read_tests}
 use Rattle.history.specs.History.{Reply, as_call}
 use Rattle.snapshot.specs.declared.fault.Fault.{Fault as CodeFault}
 use Rattle.snapshot.specs.declared.fault.Fault.TheVariants.{Origin, Store}
@@ -35,18 +35,23 @@ sized n rest h = let x = passes (not (eqb n 512)) (pair_fault 1) rest h in (long
     long true is h = eqb-true n 512 is
     long false is h = cc
 
+-- a later test that refuses leaves no good answer
+barred : {X : Type 0} (b : Bool) (f y : Fault) → None ≡ first (test b f ∷ Some y ∷ []) → X
+barred true f y h = cc
+barred false f y h = cc
+
 served : (g : Ground) (held : Held) (size : ChunkSize) (table : List Exception) (s : ℕ) → None ≡ first (view_tests g (memory held size table) s) → held ≡ Open
-served g Closed size table s h = let x : true ≡ false = (passes true (pair_fault 4) _ (passes g.stopped (pair_fault 5) _ h).1).0 in cc
+served g Closed size table s h = barred g.stopped (pair_fault 5) (pair_fault 4) h
 served g Open size table s h = refl
-served g Invalid size table s h = let x : true ≡ false = (passes true (pair_fault 6) _ (passes false (pair_fault 4) _ (passes g.stopped (pair_fault 5) _ h).1).1).0 in cc
+served g Invalid size table s h = barred g.stopped (pair_fault 5) (pair_fault 6) h
 
 -- of an origin read: its buffer is 512 bytes
 pub origin_long : (g : Ground) (m : Memory) (s n : ℕ) → None ≡ origin_read_tests g m s n → n ≡ 512
-origin_long g m s n h = (sized n _ h).0
+origin_long g m s n h = (sized n (not_stopped g ∷ opened m ∷ on_origin g s ∷ []) h).0
 
 -- of a snapshot read: its buffer is 512 bytes, and the pair is open
 pub view_opens : (g : Ground) (held : Held) (size : ChunkSize) (table : List Exception) (s n : ℕ) → None ≡ view_read_tests g (memory held size table) s n → (n ≡ 512) × (held ≡ Open)
-view_opens g held size table s n h = let x = sized n _ h in (x.0, served g held size table s x.1)
+view_opens g held size table s n h = let x = sized n (view_tests g (memory held size table) s) h in (x.0, served g held size table s x.1)
 
 -- WHAT A DEVICE AND THE STORE ANSWER
 
