@@ -1,22 +1,28 @@
 -- The calls of a pair past their tests.
-use Rattle.std.proofs.Common.{◌≡◌, ℕ, Bool, true, false, not, List, [], ◌∷◌, Some, None, Option, IsErrAnd, Ok, Err, Result, refl, ap, sym, ◌∙◌, subst, eqb, eqb-true}
+use Rattle.std.proofs.Common.{◌≡◌, ℕ, ◌/◌, Bool, true, false, not, List, [], ◌∷◌, Some, None, Option, IsErrAnd, Ok, Err, Result, refl, ap, sym, ◌∙◌, subst, eqb, eqb-true}
 use Rattle.device.specs.declared.fault.DeviceFault.{DeviceFault}
 use Rattle.device.specs.Disk.{Bytes, Disk, Told, Refusal, good, refused, refusal, reads, Called}
 use Rattle.device.specs.Answers.{number, where_at}
-use Rattle.device.specs.Plans.{Plan, Side, origin}
+use Rattle.device.specs.Plans.{Plan, done, Runs, raised, one, Side, origin, both, Disks, pair}
+use Rattle.device.proofs.Steps.{Comes, same, stay, ◌⨾◌, ends_as}
 use Rattle.layout.specs.declared.chunk.ChunkSize.{ChunkSize}
+use Rattle.layout.specs.Chunks.{sectors}
 use Rattle.layout.specs.declared.exception.Exception.{Exception}
+use Rattle.exceptions.specs.Table.{lookup}
 use Rattle.store.specs.declared.fault.StoreFault.{StoreFault}
 use Rattle.store.specs.Answers.{numbers as store_numbers}
+use Rattle.store.specs.Refusals.{StoreRefusal}
+use Rattle.store.specs.Steps.{copy_read, in_chunks, shape_of}
 use Rattle.history.specs.Faults.{Fault, passed_up, store_up, pair_fault}
-use Rattle.history.specs.Steps.{Memory, Mode, Outcome, Ground, guarded, test, first, sector_length, not_stopped, opened, on_origin, view_tests, origin_read_tests, view_read_tests}
-use Rattle.history.specs.History.{Reply, as_call}
+use Rattle.history.specs.Steps.{sizes, Memory, serving, Mode, plain, Outcome, Ground, ground, giving, after, carry, view_steps, view_reading, guarded, test, first, sector_length, not_stopped, opened, on_origin, view_tests, origin_read_tests, view_read_tests}
+use Rattle.history.specs.History.{Reply, Answer, Result as Answered, contents, replied, as_call, read_view, plan_of}
 use Rattle.snapshot.specs.declared.fault.Fault.{Fault as CodeFault}
 use Rattle.snapshot.specs.declared.fault.Fault.TheVariants.{Origin, Store}
 use Rattle.snapshot.specs.declared.state.Held.{Held}
 use Rattle.snapshot.specs.declared.state.Held.TheVariants.{Closed, Open, Invalid}
 use Rattle.snapshot.specs.Answers.{numbers, told}
 use Rattle.snapshot.specs.Pairs.{memory}
+use Rattle.snapshot.proofs.OnBoth.{stored, after_ran}
 
 -- no test refused
 pub begun : {A : Type 0} (f : A → Reply) (m : Memory) (mode : Mode) {t : Option Fault} (p : Plan Side (Outcome A)) → None ≡ t → as_call f mode (guarded m t p) ≡ as_call f mode p
@@ -67,3 +73,27 @@ origin_passed (Err x) b y h = ap (λ z. refused (numbers z)) h
 pub store_passed : {A B : Type 0} (r : Result A CodeFault) (b : B) (y : StoreFault) → IsErrAnd r (λ x. x ≡ Store y) → told r b ≡ refused (store_up (store_numbers y))
 store_passed (Ok a) b y h = absurd h
 store_passed (Err x) b y h = ap (λ z. refused (numbers z)) h
+
+-- A SNAPSHOT READ
+
+-- the sector read in the copy at chunk k
+pub copied : (d : Disks) (size : ChunkSize) (k s : ℕ) {n : ℕ} {e : Disk} {t : Told StoreRefusal Bytes} → n ≡ 512 → Runs one (copy_read (in_chunks d.cow size) k s n) d.cow t e → Runs both (view_steps (ground d) size s (Some k)) d (raised store_up t) (pair d.origin e)
+copied d size k s {e = e} {t = t} long r = stored (copy_read (shape_of (sizes d) size) k s 512) (subst (λ n. Runs one (copy_read (in_chunks d.cow size) k s n) d.cow t e) long r)
+
+module _ (d : Disks) (held : Held) (size : ChunkSize) (table : List Exception) (s n : ℕ) where
+  abbrev steps : Option ℕ → Plan Side Answered
+  steps k = as_call contents plain (after (serving size table) (view_steps (ground d) size s k) (λ b. giving (serving size table) b))
+
+  pub viewed : (k : Option ℕ) {t : Told Fault Bytes} {e : Disks} {a : Answer} {m : Memory} → None ≡ view_read_tests (ground d) (memory held size table) s n → lookup table (s / sectors size) ≡ k → (n ≡ 512 → Runs both (view_steps (ground d) size s k) d t e) → a ≡ replied contents t → m ≡ memory held size table → Runs both (plan_of (ground d) (memory held size table) plain (read_view s n)) d (record { answer = a; memory = m; mode = plain }) e
+  viewed k {t} {e} {a} {m} tests looked go is kept =
+      let opens = view_opens (ground d) held size table s n tests in
+      ends_as (λ i. record { answer = is i; memory = (kept ∙ ap (λ h. memory h size table) opens.1) i; mode = plain })
+      (same (begun contents (memory held size table) plain (view_reading (ground d) (memory held size table) s) tests)
+      ⨾ same (ap (λ h. as_call contents plain (view_reading (ground d) (memory h size table) s)) opens.1)
+      ⨾ same (ap steps looked)
+      ⨾ after_ran contents plain (serving size table) (view_steps (ground d) size s k) (λ b. giving (serving size table) b) (go opens.0)
+      ⨾ finished t e)
+    where
+      finished : (t : Told Fault Bytes) (e : Disks) → Comes both (as_call contents plain (carry (serving size table) (λ b. giving (serving size table) b) t)) e (done (record { answer = replied contents t; memory = serving size table; mode = plain })) e
+      finished (good b) e = stay
+      finished (refused f) e = stay

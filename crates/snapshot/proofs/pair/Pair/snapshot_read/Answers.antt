@@ -1,22 +1,48 @@
-use Rattle.std.proofs.Common.{◌≡◌, length, ap, refl}
-use Rattle.device.proofs.Steps.{same, ◌⨾◌, called, ends, ends_as}
+use Rattle.std.proofs.Common.{◌≡◌, ℕ, ◌/◌, List, length, Some, None, Option, ap, refl, sym, ◌∙◌}
+use Rattle.device.proofs.Steps.{called, ends}
 use Rattle.exceptions.specs.Listed.{listed}
+use Rattle.exceptions.specs.Table.{lookup}
+use Rattle.layout.specs.Chunks.{sectors}
+use Rattle.layout.specs.declared.chunk.ChunkSize.{ChunkSize}
+use Rattle.layout.specs.declared.exception.Exception.{Exception}
 use Rattle.history.specs.History.{contents, replied}
-use Rattle.history.specs.Steps.{plain}
-use Rattle.snapshot.specs.Pairs.{remembered, seen}
-use Rattle.snapshot.proofs.Begun.{begun, view_opens, read_as, origin_passed, store_passed}
+use Rattle.snapshot.specs.Pairs.{memory, disks}
+use Rattle.snapshot.proofs.Begun.{viewed, read_as, copied, origin_passed, store_passed}
 use Rattle.snapshot.proofs.pair.Pair.snapshot_read.Goals as goal
+
+-- the chunk that was looked up is the sector's own
+looked : (table : List Exception) (s : ℕ) {n c : ℕ} {size x : ChunkSize} {found k : Option ℕ} → found ≡ lookup table n → n ≡ s / c → c ≡ sectors x → x ≡ size → found ≡ k → lookup table (s / sectors size) ≡ k
+looked table s by at width same is = ap (lookup table) (sym (at ∙ ap (λ n. s / n) (width ∙ ap sectors same))) ∙ sym by ∙ is
 
 pub returns-in_ok-read-in-None-clause-call : goal.returns-in_ok-read-in-None-clause-call
 returns-in_ok-read-in-None-clause-call g c =
     let self = c.args.self.now in
-    let o = seen g.O.Device.disk g.C.Device.disk self in
-    let size = self.store.size in
-    let table = listed self.store.table in
-    let s = c.args.sector in
-    let tests = c.in_ok-test_snapshot_read.ensures in
-    let opens = view_opens o self.held size table s (length c.args.buffer.now) tests in
+    let there = looked (listed self.store.table) c.args.sector c.lookup.ensures c.from.ensures c.sectors.ensures c.size.ensures c.in-None.is in
     record {
       offered = tt;
-      ran = while_open self.held opens.1 (λ h. viewed o h size table s (good (contents c.read.new.buffer)) (situation g.O.Device.disk g.C.Device.disk self).disks ?) ?;
+      ran = viewed (disks g.O.Device.disk g.C.Device.disk self) self.held self.store.size (listed self.store.table) c.args.sector (length c.args.buffer.now) None c.in_ok-test_snapshot_read.ensures there
+          (λ long. ends (called (read_as long c.in_ok-read-in-None.ensures.call))) refl refl;
+    }
+
+pub returns-in_err-read-in-None-clause-call : goal.returns-in_err-read-in-None-clause-call
+returns-in_err-read-in-None-clause-call g c =
+    let self = c.args.self.now in
+    let there = looked (listed self.store.table) c.args.sector c.lookup.ensures c.from.ensures c.sectors.ensures c.size.ensures c.in-None.is in
+    let refusal = origin_passed c.from_residual-in_err-read-in-None.result c.read.new.buffer _ c.from_residual-in_err-read-in-None.ensures.1 in
+    record {
+      offered = tt;
+      ran = viewed (disks g.O.Device.disk g.C.Device.disk self) self.held self.store.size (listed self.store.table) c.args.sector (length c.args.buffer.now) None c.in_ok-test_snapshot_read.ensures there
+          (λ long. ends (called (read_as long c.in_err-read-in-None.ensures.call))) (ap (replied contents) refusal) refl;
+    }
+
+pub returns-in_err-copy_read-in-Some-clause-call :
+    goal.returns-in_err-copy_read-in-Some-clause-call
+returns-in_err-copy_read-in-Some-clause-call g c =
+    let self = c.args.self.now in
+    let there = looked (listed self.store.table) c.args.sector c.lookup.ensures c.from.ensures c.sectors.ensures c.size.ensures c.in-Some.is in
+    let refusal = store_passed c.from_residual-in_err-copy_read-in-Some.result c.copy_read.new.buffer _ c.from_residual-in_err-copy_read-in-Some.ensures.1 in
+    record {
+      offered = tt;
+      ran = viewed (disks g.O.Device.disk g.C.Device.disk self) self.held self.store.size (listed self.store.table) c.args.sector (length c.args.buffer.now) (Some c.in-Some.copy) c.in_ok-test_snapshot_read.ensures there
+          (λ long. copied (disks g.O.Device.disk g.C.Device.disk self) self.store.size c.in-Some.copy c.args.sector long c.in_err-copy_read-in-Some.ensures.call) (ap (replied contents) refusal) (ap (λ x. memory self.held x.size (listed x.table)) c.in_err-copy_read-in-Some.ensures.rest);
     }
