@@ -3,26 +3,26 @@ use Rattle.std.proofs.Common.{◌≡◌, ℕ, ◌/◌, Bool, true, false, not, L
 use Rattle.device.specs.declared.fault.DeviceFault.{DeviceFault}
 use Rattle.device.specs.Disk.{Bytes, Disk, Told, Refusal, good, refused, refusal, reads, Called}
 use Rattle.device.specs.Answers.{number, where_at}
-use Rattle.device.specs.Plans.{Plan, done, Runs, raised, one, Side, origin, both, Disks, pair}
-use Rattle.device.proofs.Steps.{Comes, same, stay, ◌⨾◌, ends_as}
+use Rattle.device.specs.Plans.{Plan, done, Runs, bind, onward, raised, lifted, one, on, Side, origin, cow, both, Disks, pair}
+use Rattle.device.proofs.Steps.{Comes, same, stay, ◌⨾◌, called, ends_as}
 use Rattle.layout.specs.declared.chunk.ChunkSize.{ChunkSize}
 use Rattle.layout.specs.Chunks.{sectors}
 use Rattle.layout.specs.declared.exception.Exception.{Exception}
 use Rattle.exceptions.specs.Table.{lookup}
 use Rattle.store.specs.declared.fault.StoreFault.{StoreFault}
 use Rattle.store.specs.Answers.{numbers as store_numbers}
-use Rattle.store.specs.Refusals.{StoreRefusal}
-use Rattle.store.specs.Steps.{copy_read, in_chunks, shape_of}
-use Rattle.history.specs.Faults.{Fault, passed_up, store_up, pair_fault}
+use Rattle.store.specs.Refusals.{StoreRefusal, up}
+use Rattle.store.specs.Steps.{copy_read, in_chunks, shape_of, flushing, finished}
+use Rattle.history.specs.Faults.{Fault, passed_up, store_up, pair_fault, flush}
 use Rattle.history.specs.Steps.{sizes, Memory, serving, Mode, plain, Outcome, Ground, ground, giving, after, carry, view_steps, view_reading, guarded, test, first, sector_length, not_stopped, opened, on_origin, view_tests, origin_read_tests, view_read_tests}
-use Rattle.history.specs.History.{Reply, Answer, Result as Answered, contents, replied, as_call, read_view, plan_of}
+use Rattle.history.specs.History.{Reply, nothing, Answer, Result as Answered, contents, replied, as_call, read_view, plan_of}
 use Rattle.snapshot.specs.declared.fault.Fault.{Fault as CodeFault}
 use Rattle.snapshot.specs.declared.fault.Fault.TheVariants.{Origin, Store}
 use Rattle.snapshot.specs.declared.state.Held.{Held}
 use Rattle.snapshot.specs.declared.state.Held.TheVariants.{Closed, Open, Invalid}
 use Rattle.snapshot.specs.Answers.{numbers, told}
 use Rattle.snapshot.specs.Pairs.{memory}
-use Rattle.snapshot.proofs.OnBoth.{stored, after_ran}
+use Rattle.snapshot.proofs.OnBoth.{stored, after_ran, emptied, flushed}
 
 -- no test refused
 pub begun : {A : Type 0} (f : A → Reply) (m : Memory) (mode : Mode) {t : Option Fault} (p : Plan Side (Outcome A)) → None ≡ t → as_call f mode (guarded m t p) ≡ as_call f mode p
@@ -97,3 +97,19 @@ module _ (d : Disks) (held : Held) (size : ChunkSize) (table : List Exception) (
       finished : (t : Told Fault Bytes) (e : Disks) → Comes both (as_call contents plain (carry (serving size table) (λ b. giving (serving size table) b) t)) e (done (record { answer = replied contents t; memory = serving size table; mode = plain })) e
       finished (good b) e = stay
       finished (refused f) e = stay
+
+-- A FLUSH
+
+-- what a flush answers at last
+abbrev pub flush_ends : Memory → Told Fault (Unit {0}) → Plan Side Answered
+flush_ends m t = done (record { answer = replied (λ _. nothing) t; memory = m; mode = plain })
+
+-- the COW device flushed at last
+pub flushed_last : {m : Memory} {d : Disks} {e : Disk} {t : Told StoreRefusal (Unit {0})} → Runs one (lifted up (flushing finished)) d.cow t e → Comes both (as_call {A = Unit {0}} (λ _. nothing) plain (after m (flush cow) (λ _. giving m tt))) d (flush_ends m (raised store_up t)) (pair d.origin e)
+flushed_last {m} {d} {e} {t} r =
+    let f = flushed r in
+    called f.done ⨾ by f.answer ⨾ same (ap (λ x. flush_ends m (raised store_up x)) (sym f.told))
+  where
+    by : (v : Told Refusal Bytes) → Comes both (as_call {A = Unit {0}} (λ _. nothing) plain (bind (bind (on cow (onward v (λ b. done (good b)))) (λ t. done (raised (passed_up cow) t))) (carry m (λ _. giving m tt)))) (pair d.origin e) (flush_ends m (raised store_up (raised up (emptied v)))) (pair d.origin e)
+    by (good b) = stay
+    by (refused f) = stay
