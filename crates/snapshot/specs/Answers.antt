@@ -6,6 +6,7 @@ use Rattle.device.specs.Answers.{number, where_at}
 use Rattle.store.specs.Answers.{numbers as store_numbers}
 use Rattle.history.specs.Faults.{Fault, fault, pair_fault, store_up, passed_up}
 use Rattle.snapshot.specs.declared.fault.Fault.{Fault as CodeFault}
+use Rattle.snapshot.specs.declared.fault.FaultNumbers.{FaultNumbers}
 use Rattle.snapshot.specs.declared.fault.Fault.TheVariants.{Origin, Store, Length, Sector, State, Stopped, Invalid, ChunkSize, Misshaped}
 
 -- each refusal's numbers
@@ -19,6 +20,10 @@ numbers Stopped = pair_fault 5
 numbers Invalid = pair_fault 6
 numbers (ChunkSize n) = pair_fault 8
 numbers Misshaped = pair_fault 9
+
+-- the five numbers that the code gives
+abbrev pub numbered : FaultNumbers → Fault
+numbered n = fault n.number n.layer n.device n.place n.entry
 
 -- an answer, with what a good one gives
 abbrev pub told : {A B : Type 0} → Result A CodeFault → B → Told Fault B
