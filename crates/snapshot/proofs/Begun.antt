@@ -42,7 +42,7 @@ sized n rest h = let x = passes (not (eqb n 512)) (pair_fault 1) rest h in (long
     long false is h = cc
 
 -- a later test that refuses leaves no good answer
-barred : {X : Type 0} (b : Bool) (f y : Fault) → None ≡ first (test b f ∷ Some y ∷ []) → X
+pub barred : {X : Type 0} (b : Bool) (f y : Fault) → None ≡ first (test b f ∷ Some y ∷ []) → X
 barred true f y h = cc
 barred false f y h = cc
 

@@ -1,13 +1,16 @@
 -- What a pair means.
-use Rattle.std.specs.Prelude.{List, Some, None, Ok, Err, Option, Result}
+use Rattle.std.specs.Prelude.{◌≡◌, ℕ, List, Some, None, Ok, Err, Option, Result}
 use Rattle.device.specs.Disk.{Disk}
 use Rattle.device.specs.Plans.{Disks, pair}
 use Rattle.layout.specs.declared.chunk.ChunkSize.{ChunkSize}
+use Rattle.layout.specs.Chunks.{chunk_size}
 use Rattle.layout.specs.declared.exception.Exception.{Exception}
 use Rattle.exceptions.specs.Listed.{listed}
 use Rattle.history.specs.Faults.{Fault}
 use Rattle.history.specs.Steps.{Memory, closed, serving, invalid, plain, Ground, ground}
 use Rattle.history.specs.History.{Situation}
+use Rattle.history.specs.Machine.{made}
+use Rattle.history.specs.Promise.{Protected}
 use Rattle.snapshot.specs.declared.fault.Fault.{Fault as CodeFault}
 use Rattle.snapshot.specs.declared.state.Held.{Held}
 use Rattle.snapshot.specs.declared.state.Held.TheVariants.{Closed, Open, Invalid}
@@ -42,3 +45,7 @@ situation o c x = record { disks = disks o c x; memory = remembered x; mode = pl
 abbrev pub tested : Result (Unit {0}) CodeFault → Option Fault
 tested (Ok _) = None
 tested (Err e) = Some (numbers e)
+
+-- every history from here on keeps the whole promise, with chunks of c sectors
+abbrev pub Kept : ℕ → Situation → Type 0
+Kept c start = (size : ChunkSize) × (chunk_size c ≡ Some size) × Protected (made size start.disks) start

@@ -1,6 +1,6 @@
 // Why a pair refuses.
 ghost use Rattle.std.specs.Prelude.{◌≡◌};
-ghost use Rattle.snapshot.specs.declared.fault.Fault.TheVariants.{Origin as OfOrigin, Store as OfStore};
+ghost use Rattle.snapshot.specs.declared.fault.Fault.TheVariants.{Origin as OfOrigin, Store as OfStore, ChunkSize as OfChunkSize};
 ghost use Rattle.device.specs.Disk.{refusal};
 ghost use Rattle.device.specs.Plans.{origin};
 ghost use Rattle.device.specs.Answers.{number, where_at};
@@ -9,7 +9,7 @@ ghost use Rattle.history.specs.Faults.{pair_fault, store_fault, store_up, passed
 ghost use Rattle.snapshot.specs.Answers.{numbered, numbers};
 
 use device::DeviceFault;
-use layout::HeaderFault;
+use layout::{HeaderFault, NoChunkSize};
 use store::StoreFault;
 
 #[derive(Clone, Copy, Debug, PartialEq, Eq)]
@@ -149,5 +149,13 @@ impl From<StoreFault> for Fault {
 
     fn from(fault: StoreFault) -> Fault {
         Fault::Store(fault)
+    }
+}
+
+impl From<NoChunkSize> for Fault {
+    ghost from_gives = { λ x y. y ≡ OfChunkSize x.0 };
+
+    fn from(fault: NoChunkSize) -> Fault {
+        Fault::ChunkSize(fault.0)
     }
 }

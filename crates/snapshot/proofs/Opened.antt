@@ -1,0 +1,64 @@
+-- The steps of making and of opening.
+use Rattle.std.proofs.Common.{◌≡◌, ℕ, List, [], ◌∷◌, Some, None, Option, Ok, refl, sym, ap, ◌∙◌, subst}
+use Rattle.std.specs.Option.{ok_or}
+use Rattle.device.specs.Disk.{Whole, Bytes, Disk, flushes, Told, Refusal, good, refused, Called}
+use Rattle.device.specs.Plans.{Plan, World, done, Runs, then, raised, lifted, one, both, Side, origin, cow, Disks, pair}
+use Rattle.device.proofs.Steps.{Comes, same, stay, ◌⨾◌, called, ran, ends}
+use Rattle.layout.specs.Chunks.{sectors, chunk_size}
+use Rattle.layout.specs.declared.chunk.ChunkSize.{ChunkSize}
+use Rattle.layout.specs.declared.exception.Exception.{Exception}
+use Rattle.store.specs.Refusals.{StoreRefusal, up}
+use Rattle.store.specs.Steps.{making}
+use Rattle.history.specs.Faults.{Fault, passed_up, store_up, pair_fault, flush, at_side}
+use Rattle.history.specs.Steps.{Memory, closed, plain, serving, Outcome, Ground, ground, guarded, after, carry, giving, make_tests, shape, make, make_sized}
+use Rattle.snapshot.specs.declared.state.Held.{Held}
+use Rattle.snapshot.specs.declared.state.Held.TheVariants.{Closed, Open, Invalid}
+use Rattle.history.proofs.Safe.{crash_safe}
+use Rattle.snapshot.specs.Pairs.{memory, Kept}
+use Rattle.snapshot.proofs.Begun.{barred}
+use Rattle.snapshot.proofs.OnBoth.{at_cow}
+
+-- tests that ask for a closed pair find one
+pub closes : (g : Ground) (held : Held) (size : ChunkSize) (table : List Exception) → None ≡ make_tests g (memory held size table) → held ≡ Closed
+closes g Closed size table h = refl
+closes g Open size table h = barred g.stopped (pair_fault 5) (pair_fault 4) h
+closes g Invalid size table h = barred g.stopped (pair_fault 5) (pair_fault 4) h
+
+-- what making answers, by what the origin or the store answered
+abbrev pub origin_refuses : Memory → Refusal → Outcome (Unit {0})
+origin_refuses m f = record { answer = refused (passed_up origin f); memory = m }
+
+abbrev pub store_answers : Memory → ChunkSize → Told StoreRefusal (Unit {0}) → Outcome (Unit {0})
+store_answers m size (good x) = record { answer = good tt; memory = serving size [] }
+store_answers m size (refused f) = record { answer = refused (store_up f); memory = m }
+
+module _ (d : Disks) (m : Memory) (c : ℕ) (size : ChunkSize) (fresh : None ≡ make_tests (ground d) m) (is : chunk_size c ≡ Some size) (fits : None ≡ shape (ground d) (sectors size)) where
+  sized : make (ground d) m c ≡ make_sized (ground d) m (Some size)
+  sized = ap (λ t. guarded m t (make_sized (ground d) m (chunk_size c))) (sym fresh) ∙ ap (make_sized (ground d) m) is
+
+  abbrev steps : Option Fault → Plan Side (Outcome (Unit {0}))
+  steps t = guarded m t (after m (then (flush origin) (λ _. at_side cow (making (sectors size)))) (λ _. giving (serving size []) tt))
+
+  pub unflushed : {f : Refusal} {o : Disk} → Called flushes d.origin (refused f) o → Runs both (make (ground d) m c) d (origin_refuses m f) (pair o d.cow)
+  unflushed first = ends (same (sized ∙ ap steps (sym fits)) ⨾ called first)
+
+  pub made_both : {b : Bytes} {o e : Disk} {t : Told StoreRefusal (Unit {0})} → Called flushes d.origin (good b) o → Runs one (lifted up (making (sectors size))) d.cow t e → Runs both (make (ground d) m c) d (store_answers m size t) (pair o e)
+  made_both {t = t} first r = ends (same (sized ∙ ap steps (sym fits)) ⨾ called first ⨾ ran (carry m (λ _. giving (serving size []) tt)) (at_cow (making (sectors size)) r) ⨾ last t)
+    where
+      last : {s : Disks} (t : Told StoreRefusal (Unit {0})) → Comes both (carry m (λ _. giving (serving size []) tt) (raised store_up t)) s (done (store_answers m size t)) s
+      last (good x) = stay
+      last (refused f) = stay
+
+-- the size of chunks that was chosen
+pub chosen : {A F : Type 0} {x : A} (o : Option A) (f : F) → Ok x ≡ ok_or o f → o ≡ Some x
+chosen None f h = cc
+chosen (Some y) f h = cc
+
+pub ending_as : {W S A : Type 0} {w : World W S} {p : Plan W A} {s e : S} {a b : A} → a ≡ b → Runs w p s b e → Runs w p s a e
+ending_as {w = w} {p = p} {s = s} {e = e} is r = subst (λ x. Runs w p s x e) (sym is) r
+
+-- a making that was good begins what keeps the promise
+pub kept : (c : ℕ) (d e : Disks) (m n : Memory) → Whole d.origin → Whole d.cow → m ≡ closed → Runs both (make (ground d) m c) d (record { answer = good tt; memory = n }) e → Kept c (record { disks = e; memory = n; mode = plain })
+kept c d e m n wo wc is r =
+    let x = crash_safe c d (record { disks = e; memory = n; mode = plain }) wo wc (record { ran = subst (λ y. Runs both (make (ground d) y c) d (record { answer = good tt; memory = n }) e) is r; pair = refl }) in
+    (x.0, x.1, x.2)
