@@ -1,5 +1,6 @@
 -- The steps of making and of opening.
-use Rattle.std.proofs.Common.{◌≡◌, ℕ, List, [], ◌∷◌, Some, None, Option, Ok, refl, sym, ap, ◌∙◌, subst}
+use Rattle.std.proofs.Common.{◌≡◌, ℕ, eqb, length, replicate, List, [], ◌∷◌, Some, None, Option, Ok, refl, sym, ap, ◌∙◌, subst, subst₂}
+use Rattle.std.proofs.lemmas.Bool.{eq-eqb, cond-true}
 use Rattle.std.specs.Option.{ok_or}
 use Rattle.device.specs.Disk.{Whole, Bytes, Disk, flushes, Told, Refusal, good, refused, Called}
 use Rattle.device.specs.Plans.{Plan, World, done, Runs, then, raised, lifted, one, both, Side, origin, cow, Disks, pair}
@@ -8,15 +9,16 @@ use Rattle.layout.specs.Chunks.{sectors, chunk_size}
 use Rattle.layout.specs.declared.chunk.ChunkSize.{ChunkSize}
 use Rattle.layout.specs.declared.exception.Exception.{Exception}
 use Rattle.store.specs.Refusals.{StoreRefusal, up}
-use Rattle.store.specs.Steps.{making}
-use Rattle.history.specs.Faults.{Fault, passed_up, store_up, pair_fault, flush, at_side}
-use Rattle.history.specs.Steps.{Memory, closed, plain, serving, Outcome, Ground, ground, guarded, after, carry, giving, make_tests, shape, make, make_sized}
+use Rattle.store.specs.Steps.{Contents, making, opening}
+use Rattle.history.specs.Faults.{Fault, passed_up, store_up, pair_fault, flush, at_side, in_store}
+use Rattle.history.specs.Steps.{work_bytes, sizes, Memory, closed, plain, serving, Outcome, Ground, ground, guarded, after, carry, giving, open_tests, make_tests, shape, make, make_sized}
 use Rattle.snapshot.specs.declared.state.Held.{Held}
 use Rattle.snapshot.specs.declared.state.Held.TheVariants.{Closed, Open, Invalid}
+use Rattle.history.specs.History.{Result, nothing, as_call, plan_of, reopen}
 use Rattle.history.proofs.Safe.{crash_safe}
-use Rattle.snapshot.specs.Pairs.{memory, Kept}
-use Rattle.snapshot.proofs.Begun.{barred}
-use Rattle.snapshot.proofs.OnBoth.{at_cow}
+use Rattle.snapshot.specs.Pairs.{memory, wiped, Kept}
+use Rattle.snapshot.proofs.Begun.{barred, begun}
+use Rattle.snapshot.proofs.OnBoth.{at_cow, stored, after_ran}
 
 -- tests that ask for a closed pair find one
 pub closes : (g : Ground) (held : Held) (size : ChunkSize) (table : List Exception) → None ≡ make_tests g (memory held size table) → held ≡ Closed
@@ -62,3 +64,33 @@ pub kept : (c : ℕ) (d e : Disks) (m n : Memory) → Whole d.origin → Whole d
 kept c d e m n wo wc is r =
     let x = crash_safe c d (record { disks = e; memory = n; mode = plain }) wo wc (record { ran = subst (λ y. Runs both (make (ground d) y c) d (record { answer = good tt; memory = n }) e) is r; pair = refl }) in
     (x.0, x.1, x.2)
+
+-- OPENING
+
+-- a closed pair remembers nothing
+pub forgets : {held : Held} (a b : ChunkSize) (s t : List Exception) → held ≡ Closed → memory held a s ≡ memory held b t
+forgets a b s t is = ap (λ h. memory h a s) is ∙ sym (ap (λ h. memory h b t) is)
+
+-- a work buffer that was zeroed whole
+pub zeroed : (bytes : Bytes) {n : ℕ} {x : Bytes} → x ≡ replicate n 0 → n ≡ length bytes → length bytes ≡ work_bytes → x ≡ wiped bytes
+zeroed bytes {x = x} zeros kept long =
+    let all : x ≡ replicate work_bytes 0 = zeros ∙ ap (λ n. replicate n 0) (kept ∙ long) in
+    all ∙ sym (cond-true (eqb (length bytes) work_bytes) _ _ (eq-eqb _ _ long))
+
+-- what opening answers, by what the store answered
+abbrev pub open_ends : Memory → Told StoreRefusal Contents → Result
+open_ends m (good o) = record { answer = good nothing; memory = serving o.size o.table; mode = plain }
+open_ends m (refused f) = record { answer = refused (store_up f); memory = m; mode = plain }
+
+pub reopened : (d : Disks) (m : Memory) (n : ℕ) {z : ℕ} {t : Told StoreRefusal Contents} {e : Disk} → n ≡ work_bytes → z ≡ d.origin.count → None ≡ make_tests (ground d) m → Runs one (opening (record { origin = z; cow = d.cow.count }) n) d.cow t e → Runs both (plan_of (ground d) m plain (reopen n)) d (open_ends m t) (pair d.origin e)
+reopened d m n {t = t} {e = e} long here fresh r =
+    let tests : None ≡ open_tests (ground d) m n = subst (λ n. None ≡ open_tests (ground d) m n) (sym long) fresh in
+    let run = stored (opening (sizes d) work_bytes) (subst₂ (λ n z. Runs one (opening (record { origin = z; cow = d.cow.count }) n) d.cow t e) long here r) in
+    ends (same (begun (λ _. nothing) m plain steps tests) ⨾ after_ran {B = Unit {0}} (λ _. nothing) plain m (in_store (opening (sizes d) work_bytes)) (λ o. giving (serving o.size o.table) tt) run ⨾ last t)
+  where
+    steps : Plan Side (Outcome (Unit {0}))
+    steps = after m (in_store (opening (sizes d) work_bytes)) (λ o. giving (serving o.size o.table) tt)
+
+    last : (t : Told StoreRefusal Contents) → Comes both (as_call {A = Unit {0}} (λ _. nothing) plain (carry m (λ o. giving (serving o.size o.table) tt) (raised store_up t))) (pair d.origin e) (done (open_ends m t)) (pair d.origin e)
+    last (good o) = stay
+    last (refused f) = stay

@@ -1,13 +1,13 @@
 -- What a pair means.
-use Rattle.std.specs.Prelude.{◌≡◌, ℕ, List, Some, None, Ok, Err, Option, Result}
-use Rattle.device.specs.Disk.{Disk}
+use Rattle.std.specs.Prelude.{◌≡◌, ℕ, cond, length, replicate, ◌==◌, List, Some, None, Ok, Err, Option, Result}
+use Rattle.device.specs.Disk.{Bytes, Disk}
 use Rattle.device.specs.Plans.{Disks, pair}
 use Rattle.layout.specs.declared.chunk.ChunkSize.{ChunkSize}
 use Rattle.layout.specs.Chunks.{chunk_size}
 use Rattle.layout.specs.declared.exception.Exception.{Exception}
 use Rattle.exceptions.specs.Listed.{listed}
 use Rattle.history.specs.Faults.{Fault}
-use Rattle.history.specs.Steps.{Memory, closed, serving, invalid, plain, Ground, ground}
+use Rattle.history.specs.Steps.{work_bytes, Memory, closed, serving, invalid, plain, Ground, ground}
 use Rattle.history.specs.History.{Situation}
 use Rattle.history.specs.Machine.{made}
 use Rattle.history.specs.Promise.{Protected}
@@ -45,6 +45,10 @@ situation o c x = record { disks = disks o c x; memory = remembered x; mode = pl
 abbrev pub tested : Result (Unit {0}) CodeFault → Option Fault
 tested (Ok _) = None
 tested (Err e) = Some (numbers e)
+
+-- what a call leaves of a work buffer: zeros, but one of another length it leaves alone
+abbrev pub wiped : Bytes → Bytes
+wiped bytes = cond (length bytes == work_bytes) (replicate work_bytes 0) bytes
 
 -- every history from here on keeps the whole promise, with chunks of c sectors
 abbrev pub Kept : ℕ → Situation → Type 0

@@ -1,16 +1,19 @@
 // Making and opening.
-ghost use Rattle.std.specs.Prelude.{◌≡◌, IfOk};
+ghost use Rattle.std.specs.Prelude.{◌≡◌, length, IfOk};
 ghost use Rattle.device.specs.Plans.{Runs, both};
 ghost use Rattle.layout.specs.Chunks.{sectors};
 ghost use Rattle.history.specs.Steps.{make_tests, shape, make};
+ghost use Rattle.history.specs.History.{Happens, replied, reopen, nothing};
 ghost use Rattle.snapshot.specs.Answers.{answered};
-ghost use Rattle.snapshot.specs.Pairs.{disks, remembered, seen, situation, tested, Kept};
+ghost use Rattle.snapshot.specs.Pairs.{disks, remembered, seen, situation, tested, wiped, Kept};
 
 use crate::fault::Fault;
 use crate::pair::Pair;
 use crate::state::Held;
+use crate::work::Work;
 use device::Device;
 use layout::ChunkSize;
+use store::WORK;
 
 impl<O: Device, C: Device> Pair<O, C> {
     // The tests of making and of opening that ask for a closed pair, in their order.
@@ -47,6 +50,21 @@ impl<O: Device, C: Device> Pair<O, C> {
         self.test_shape(size)?;
         self.origin.flush()?;
         self.store.make(size)?;
+        self.held = Held::Open;
+        Ok(())
+    }
+
+    // Opens what stands on the devices; the pair is active then. The work buffer is zeroed, unless its length is wrong.
+    pub fn open(&mut self, work: &mut [u8]) -> Result<(), Fault>
+        ensures call { Happens (situation O.disk C.disk self.old) (reopen (length work.old)) (replied (λ _. nothing) (answered result)) (situation O.disk C.disk self.new) }
+        ensures work { work.new ≡ wiped work.old }
+    {
+        if work.len() != WORK {
+            return Err(Fault::Length);
+        }
+        let work = Work { bytes: work };
+        self.test_closed()?;
+        self.store.open(self.origin.sectors(), work.bytes)?;
         self.held = Held::Open;
         Ok(())
     }
