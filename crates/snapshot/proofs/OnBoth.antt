@@ -1,11 +1,11 @@
 -- Runs of one device, and of the store, at the two devices of a pair.
 use Rattle.std.proofs.Common.{◌≡◌, List, [], ◌∷◌, refl, sym, ap, ◌∙◌, subst₂, ap₂}
 use Rattle.device.specs.Disk.{Bytes, Disk, Fate, flushes, way, Told, Refusal, good, refused, told_by, after_by, Called}
-use Rattle.device.specs.Plans.{Plan, done, call, World, ended, run, Runs, bind, onward, raised, lifted, one, both, on, Side, origin, cow, Disks, pair}
+use Rattle.device.specs.Plans.{Plan, done, call, World, ended, run, Runs, bind, onward, raised, lifted, one, both, on, Side, cow, Disks, pair}
 use Rattle.device.proofs.Steps.{Comes, same, ◌⨾◌, ran, ends, never, bind_bind}
 use Rattle.device.proofs.Uses.{over, halves}
 use Rattle.store.specs.Refusals.{StoreRefusal, StoreSteps, up}
-use Rattle.store.specs.Steps.{finished, flushing, only_call}
+use Rattle.store.specs.Steps.{finished, flushing}
 use Rattle.history.specs.Faults.{Fault, passed_up, store_up, Moves, at_side, in_store}
 use Rattle.history.specs.Steps.{Memory, Mode, Outcome, after, carry}
 use Rattle.history.specs.History.{Reply, resulted, as_call}

@@ -1,5 +1,5 @@
 -- The steps of making and of opening.
-use Rattle.std.proofs.Common.{◌≡◌, ℕ, eqb, length, replicate, List, [], ◌∷◌, Some, None, Option, Ok, refl, sym, ap, ◌∙◌, subst, subst₂}
+use Rattle.std.proofs.Common.{◌≡◌, ℕ, eqb, length, replicate, List, [], Some, None, Option, Ok, refl, sym, ap, ◌∙◌, subst, subst₂}
 use Rattle.std.proofs.lemmas.Bool.{eq-eqb, cond-true}
 use Rattle.std.specs.Option.{ok_or}
 use Rattle.device.specs.Disk.{Whole, Bytes, Disk, flushes, Told, Refusal, good, refused, Called}

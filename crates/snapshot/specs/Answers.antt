@@ -1,5 +1,5 @@
 -- The code's refusals by their numbers.
-use Rattle.std.specs.Prelude.{ℕ, Ok, Err, Result}
+use Rattle.std.specs.Prelude.{Ok, Err, Result}
 use Rattle.device.specs.Disk.{Told, good, refused, refusal}
 use Rattle.device.specs.Plans.{origin}
 use Rattle.device.specs.Answers.{number, where_at}

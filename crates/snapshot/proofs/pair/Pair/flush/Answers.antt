@@ -1,6 +1,5 @@
-use Rattle.std.proofs.Common.{ap, refl, ◌∙◌}
 use Rattle.device.specs.Disk.{good}
-use Rattle.device.proofs.Steps.{same, ◌⨾◌, called, ends, ends_as}
+use Rattle.device.proofs.Steps.{same, ◌⨾◌, called, ends_as}
 use Rattle.exceptions.specs.Listed.{listed}
 use Rattle.history.specs.History.{nothing, replied}
 use Rattle.history.specs.Steps.{plain}

@@ -1,4 +1,4 @@
-use Rattle.std.proofs.Common.{◌≡◌, ap, ap₂, sym, refl}
+use Rattle.std.proofs.Common.{ap}
 use Rattle.device.specs.Disk.{good}
 use Rattle.exceptions.specs.Listed.{listed}
 use Rattle.history.specs.Steps.{serving}

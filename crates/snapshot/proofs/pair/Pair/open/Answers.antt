@@ -1,9 +1,8 @@
-use Rattle.std.proofs.Common.{◌≡◌, ℕ, length, ap, refl}
+use Rattle.std.proofs.Common.{length, refl}
 use Rattle.exceptions.specs.Listed.{listed}
-use Rattle.device.specs.Disk.{good}
 use Rattle.history.specs.History.{replied, nothing}
 use Rattle.history.specs.Steps.{plain}
-use Rattle.snapshot.specs.Pairs.{disks, memory, remembered, seen}
+use Rattle.snapshot.specs.Pairs.{disks, remembered, seen}
 use Rattle.snapshot.proofs.Begun.{store_passed}
 use Rattle.snapshot.proofs.Opened.{closes, forgets, reopened, ending_as, zeroed}
 use Rattle.snapshot.proofs.pair.Pair.open.Goals as goal

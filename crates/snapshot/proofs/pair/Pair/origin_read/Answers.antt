@@ -1,4 +1,4 @@
-use Rattle.std.proofs.Common.{◌≡◌, length, ap, refl}
+use Rattle.std.proofs.Common.{length}
 use Rattle.device.proofs.Steps.{same, ◌⨾◌, called, ends, ends_as}
 use Rattle.history.specs.History.{contents, replied}
 use Rattle.history.specs.Steps.{plain}
