@@ -6,6 +6,8 @@ mod opening;
 mod pair;
 mod reads;
 mod state;
+#[cfg(test)]
+mod tests;
 mod work;
 mod writes;
 
