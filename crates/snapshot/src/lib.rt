@@ -8,8 +8,6 @@ mod reads;
 mod state;
 #[cfg(test)]
 mod tests;
-mod work;
-mod writes;
 
 pub use fault::{Fault, FaultNumbers};
 pub use pair::Pair;

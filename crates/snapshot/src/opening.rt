@@ -10,10 +10,9 @@ ghost use Rattle.snapshot.specs.Pairs.{disks, remembered, seen, situation, teste
 use crate::fault::Fault;
 use crate::pair::Pair;
 use crate::state::Held;
-use crate::work::Work;
 use device::Device;
 use layout::ChunkSize;
-use store::WORK;
+use store::{WORK, Work};
 
 impl<O: Device, C: Device> Pair<O, C> {
     // The tests of making and of opening that ask for a closed pair, in their order.
