@@ -76,6 +76,10 @@ store_passed (Err x) b y h = ap (λ z. refused (numbers z)) h
 
 -- A SNAPSHOT READ
 
+-- the chunk that was looked up is the sector's own
+pub looked : (table : List Exception) (s : ℕ) {n c : ℕ} {size x : ChunkSize} {found k : Option ℕ} → found ≡ lookup table n → n ≡ s / c → c ≡ sectors x → x ≡ size → found ≡ k → lookup table (s / sectors size) ≡ k
+looked table s by at width same is = ap (lookup table) (sym (at ∙ ap (λ n. s / n) (width ∙ ap sectors same))) ∙ sym by ∙ is
+
 -- the sector read in the copy at chunk k
 pub copied : (d : Disks) (size : ChunkSize) (k s : ℕ) {n : ℕ} {e : Disk} {t : Told StoreRefusal Bytes} → n ≡ 512 → Runs one (copy_read (in_chunks d.cow size) k s n) d.cow t e → Runs both (view_steps (ground d) size s (Some k)) d (raised store_up t) (pair d.origin e)
 copied d size k s {e = e} {t = t} long r = stored (copy_read (shape_of (sizes d) size) k s 512) (subst (λ n. Runs one (copy_read (in_chunks d.cow size) k s n) d.cow t e) long r)

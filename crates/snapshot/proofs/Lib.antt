@@ -1,3 +1,4 @@
 pub mod Begun
 pub mod OnBoth
 pub mod Opened
+pub mod Written

@@ -1,5 +1,5 @@
 -- The code's refusals by their numbers.
-use Rattle.std.specs.Prelude.{Ok, Err, Result}
+use Rattle.std.specs.Prelude.{Bool, true, false, Ok, Err, Result}
 use Rattle.device.specs.Disk.{Told, good, refused, refusal}
 use Rattle.device.specs.Plans.{origin}
 use Rattle.device.specs.Answers.{number, where_at}
@@ -8,6 +8,8 @@ use Rattle.history.specs.Faults.{Fault, fault, pair_fault, store_up, passed_up}
 use Rattle.snapshot.specs.declared.fault.Fault.{Fault as CodeFault}
 use Rattle.snapshot.specs.declared.fault.FaultNumbers.{FaultNumbers}
 use Rattle.snapshot.specs.declared.fault.Fault.TheVariants.{Origin, Store, Length, Sector, State, Stopped, Invalid, ChunkSize, Misshaped}
+use Rattle.snapshot.specs.declared.state.OriginWrite.{OriginWrite}
+use Rattle.snapshot.specs.declared.state.OriginWrite.TheVariants.{Kept, Invalidated}
 
 -- each refusal's numbers
 abbrev pub numbers : CodeFault → Fault
@@ -33,3 +35,13 @@ told (Err e) b = refused (numbers e)
 -- an answer that gives nothing
 abbrev pub answered : Result (Unit {0}) CodeFault → Told Fault (Unit {0})
 answered r = told r tt
+
+-- whether an origin write made the snapshot invalid
+abbrev pub became : OriginWrite → Bool
+became Kept = false
+became Invalidated = true
+
+-- an origin write's answer
+abbrev pub wrote : Result OriginWrite CodeFault → Told Fault Bool
+wrote (Ok w) = good (became w)
+wrote (Err e) = refused (numbers e)

@@ -1,3 +1,4 @@
 pub mod Answers
 pub mod Figures
 pub mod Pairs
+pub mod Ways

@@ -8,6 +8,7 @@ mod reads;
 mod state;
 #[cfg(test)]
 mod tests;
+mod writes;
 
 pub use fault::{Fault, FaultNumbers};
 pub use pair::Pair;

@@ -1,5 +1,5 @@
 // What a pair answers, on examples with chunks of one sector and of two.
-use crate::{Fault, FaultNumbers, Pair, State, Status};
+use crate::{Fault, FaultNumbers, OriginWrite, Pair, State, Status};
 use device::{Device, DeviceFault, FuseDevice, PlainDevice};
 use exceptions::ExceptionTable;
 use layout::{ChunkSize, HeaderFault};
@@ -144,6 +144,60 @@ fn opening_refuses_in_order(rt: HostRuntime) -> Result<(), Fail> {
     assert_eq!(rt; pair.open(&mut work), Err(Fault::State));
     assert!(rt; work.iter().all(|b| *b == 0));
     assert_eq!(rt; pair.status().state, State::Active);
+    Ok(())
+}
+
+// An origin write copies its chunk first, once: the snapshot still reads as the origin did.
+#[test]
+fn origin_writes_copy_first(rt: HostRuntime) -> Result<(), Fail> {
+    let mut pair = closed(rt.alloc())?;
+    let mut work = [7u8; WORK];
+    let state = Err(Fault::State);
+    assert_eq!(rt; pair.origin_write(7, &[b'n'; 512], &mut work), state);
+    assert!(rt; work.iter().all(|b| *b == 0));
+    pair.make(2)?;
+    let length = Err(Fault::Length);
+    let mut work = [7u8; WORK];
+    assert_eq!(rt; pair.origin_write(7, &[b'n'; 511], &mut work), length);
+    assert!(rt; work.iter().all(|b| *b == 7));
+    let kept = Ok(OriginWrite::Kept);
+    assert_eq!(rt; pair.origin_write(7, &[b'n'; 512], &mut work), kept);
+    assert!(rt; work.iter().all(|b| *b == 0));
+    assert_eq!(rt; pair.origin_write(6, &[b'n'; 512], &mut work), kept);
+    assert_eq!(rt; pair.status().exceptions, 1);
+    let mut sector = [0u8; 512];
+    pair.origin_read(7, &mut sector)?;
+    assert_eq!(rt; sector[0], b'n');
+    pair.snapshot_read(7, &mut sector)?;
+    assert_eq!(rt; sector[0], b'o');
+    pair.snapshot_read(6, &mut sector)?;
+    assert_eq!(rt; sector[0], b'o');
+    Ok(())
+}
+
+// Three chunks have one place: the next origin write makes the snapshot invalid, for good.
+#[test]
+fn full_store_is_lost(rt: HostRuntime) -> Result<(), Fail> {
+    let heap = rt.alloc();
+    let store = Store::new(disk(heap, 3, b'j')?, ExceptionTable::new(heap)?);
+    let mut pair = Pair::new(disk(heap, 100, b'o')?, store);
+    let mut work = [7u8; WORK];
+    pair.make(1)?;
+    let kept = Ok(OriginWrite::Kept);
+    assert_eq!(rt; pair.origin_write(0, &[b'n'; 512], &mut work), kept);
+    let lost = Ok(OriginWrite::Invalidated);
+    assert_eq!(rt; pair.origin_write(1, &[b'n'; 512], &mut work), lost);
+    assert_eq!(rt; pair.status().state, State::Invalid);
+    assert_eq!(rt; pair.may_merge(), Err(Fault::Invalid));
+    let mut sector = [0u8; 512];
+    assert_eq!(rt; pair.snapshot_read(1, &mut sector), Err(Fault::Invalid));
+    pair.origin_read(1, &mut sector)?;
+    assert_eq!(rt; sector[0], b'n');
+    assert_eq!(rt; pair.origin_write(2, &[b'n'; 512], &mut work), kept);
+    let (origin, store) = pair.into_parts();
+    let mut pair = Pair::new(origin, store);
+    let invalid = Fault::Store(StoreFault::Invalid);
+    assert_eq!(rt; pair.open(&mut work), Err(invalid));
     Ok(())
 }
 

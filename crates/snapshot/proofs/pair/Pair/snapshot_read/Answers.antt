@@ -1,18 +1,10 @@
-use Rattle.std.proofs.Common.{◌≡◌, ℕ, ◌/◌, List, length, Some, None, Option, ap, refl, sym, ◌∙◌}
+use Rattle.std.proofs.Common.{length, Some, None, ap, refl}
 use Rattle.device.proofs.Steps.{called, ends}
 use Rattle.exceptions.specs.Listed.{listed}
-use Rattle.exceptions.specs.Table.{lookup}
-use Rattle.layout.specs.Chunks.{sectors}
-use Rattle.layout.specs.declared.chunk.ChunkSize.{ChunkSize}
-use Rattle.layout.specs.declared.exception.Exception.{Exception}
 use Rattle.history.specs.History.{contents, replied}
 use Rattle.snapshot.specs.Pairs.{memory, disks}
-use Rattle.snapshot.proofs.Begun.{viewed, read_as, copied, origin_passed, store_passed}
+use Rattle.snapshot.proofs.Begun.{viewed, looked, read_as, copied, origin_passed, store_passed}
 use Rattle.snapshot.proofs.pair.Pair.snapshot_read.Goals as goal
-
--- the chunk that was looked up is the sector's own
-looked : (table : List Exception) (s : ℕ) {n c : ℕ} {size x : ChunkSize} {found k : Option ℕ} → found ≡ lookup table n → n ≡ s / c → c ≡ sectors x → x ≡ size → found ≡ k → lookup table (s / sectors size) ≡ k
-looked table s by at width same is = ap (lookup table) (sym (at ∙ ap (λ n. s / n) (width ∙ ap sectors same))) ∙ sym by ∙ is
 
 pub returns-in_ok-read-in-None-clause-call : goal.returns-in_ok-read-in-None-clause-call
 returns-in_ok-read-in-None-clause-call g c =
