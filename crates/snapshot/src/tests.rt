@@ -259,8 +259,11 @@ fn refusals_in_numbers(rt: HostRuntime) -> Result<(), Fail> {
     assert!(rt; is_numbered(Fault::ChunkSize(3), [8, 3, 0, 0, 0]));
     assert!(rt; is_numbered(Fault::Misshaped, [9, 3, 0, 0, 0]));
     assert!(rt; is_numbered(Fault::Store(StoreFault::Misshaped), [9, 3, 0, 0, 0]));
-    let version = StoreFault::Head(HeaderFault::Version);
-    assert!(rt; is_numbered(Fault::Store(version), [11, 2, 2, 0, 0]));
+    let heads = [HeaderFault::Magic, HeaderFault::Version, HeaderFault::Field];
+    for (head, number) in heads.into_iter().zip(10..13) {
+        let fault = Fault::Store(StoreFault::Head(head));
+        assert!(rt; is_numbered(fault, [number, 2, 2, 0, 0]));
+    }
     let damaged = StoreFault::Damaged { area: 1, entry: 31 };
     assert!(rt; is_numbered(Fault::Store(damaged), [13, 2, 2, 1, 31]));
     assert!(rt; is_numbered(Fault::Store(StoreFault::TooMany), [14, 2, 2, 0, 0]));
