@@ -60,10 +60,10 @@ pub ending_as : {W S A : Type 0} {w : World W S} {p : Plan W A} {s e : S} {a b :
 ending_as {w = w} {p = p} {s = s} {e = e} is r = subst (λ x. Runs w p s x e) (sym is) r
 
 -- a making that was good begins what keeps the promise
-pub kept : (c : ℕ) (d e : Disks) (m n : Memory) → Whole d.origin → Whole d.cow → m ≡ closed → Runs both (make (ground d) m c) d (record { answer = good tt; memory = n }) e → Kept c (record { disks = e; memory = n; mode = plain })
+pub kept : (c : ℕ) (d e : Disks) (m n : Memory) → Whole d.origin → Whole d.cow → m ≡ closed → Runs both (make (ground d) m c) d (record { answer = good tt; memory = n }) e → Kept c d (record { disks = e; memory = n; mode = plain })
 kept c d e m n wo wc is r =
     let x = crash_safe c d (record { disks = e; memory = n; mode = plain }) wo wc (record { ran = subst (λ y. Runs both (make (ground d) y c) d (record { answer = good tt; memory = n }) e) is r; pair = refl }) in
-    (x.0, x.1, x.2)
+    (x.0, x.1, x.2, x.3)
 
 -- OPENING
 

@@ -6,6 +6,7 @@ use Rattle.layout.specs.declared.chunk.ChunkSize.{ChunkSize}
 use Rattle.layout.specs.Chunks.{chunk_size}
 use Rattle.layout.specs.declared.exception.Exception.{Exception}
 use Rattle.exceptions.specs.Listed.{listed}
+use Rattle.recovery.specs.Readings.{image}
 use Rattle.history.specs.Faults.{Fault}
 use Rattle.history.specs.Steps.{work_bytes, Memory, closed, serving, invalid, plain, Ground, ground}
 use Rattle.history.specs.History.{Situation}
@@ -50,6 +51,7 @@ tested (Err e) = Some (numbers e)
 abbrev pub wiped : Bytes → Bytes
 wiped bytes = cond (length bytes == work_bytes) (replicate work_bytes 0) bytes
 
--- every history from here on keeps the whole promise, with chunks of c sectors
-abbrev pub Kept : ℕ → Situation → Type 0
-Kept c start = (size : ChunkSize) × (chunk_size c ≡ Some size) × Protected (made size start.disks) start
+-- every history from here on keeps the whole promise, with chunks of c sectors, of an origin that reads as it did before
+abbrev pub Kept : ℕ → Disks → Situation → Type 0
+Kept c before start =
+    (size : ChunkSize) × (chunk_size c ≡ Some size) × Protected (made size start.disks) start × ((s : ℕ) → image start.disks.origin s ≡ image before.origin s)

@@ -42,7 +42,7 @@ impl<O: Device, C: Device> Pair<O, C> {
     // Makes an empty snapshot with chunks of c sectors; the pair is active then.
     pub fn make(&mut self, c: u32) -> Result<(), Fault>
         ensures call { Runs both (make (seen O.disk C.disk self.old) (remembered self.old) c) (disks O.disk C.disk self.old) (record { answer = answered result; memory = remembered self.new }) (disks O.disk C.disk self.new) }
-        ensures promise { IfOk result (λ _. Kept c (situation O.disk C.disk self.new)) }
+        ensures promise { IfOk result (λ _. Kept c (disks O.disk C.disk self.old) (situation O.disk C.disk self.new)) }
     {
         self.test_closed()?;
         let size = ChunkSize::try_from(c)?;
