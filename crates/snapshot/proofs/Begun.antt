@@ -46,7 +46,7 @@ pub barred : {X : Type 0} (b : Bool) (f y : Fault) → None ≡ first (test b f 
 barred true f y h = cc
 barred false f y h = cc
 
-served : (g : Ground) (held : Held) (size : ChunkSize) (table : List Exception) (s : ℕ) → None ≡ first (view_tests g (memory held size table) s) → held ≡ Open
+pub served : (g : Ground) (held : Held) (size : ChunkSize) (table : List Exception) (s : ℕ) → None ≡ first (view_tests g (memory held size table) s) → held ≡ Open
 served g Closed size table s h = barred g.stopped (pair_fault 5) (pair_fault 4) h
 served g Open size table s h = refl
 served g Invalid size table s h = barred g.stopped (pair_fault 5) (pair_fault 6) h

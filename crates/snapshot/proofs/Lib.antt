@@ -2,3 +2,4 @@ pub mod Begun
 pub mod OnBoth
 pub mod Opened
 pub mod Written
+pub mod Placed

@@ -32,6 +32,11 @@ abbrev pub told : {A B : Type 0} → Result A CodeFault → B → Told Fault B
 told (Ok _) b = good b
 told (Err e) b = refused (numbers e)
 
+-- an answer, with the value of a good one
+abbrev pub gave : {A : Type 0} → Result A CodeFault → Told Fault A
+gave (Ok a) = good a
+gave (Err e) = refused (numbers e)
+
 -- an answer that gives nothing
 abbrev pub answered : Result (Unit {0}) CodeFault → Told Fault (Unit {0})
 answered r = told r tt

@@ -185,12 +185,18 @@ fn full_store_is_lost(rt: HostRuntime) -> Result<(), Fail> {
     pair.make(1)?;
     let kept = Ok(OriginWrite::Kept);
     assert_eq!(rt; pair.origin_write(0, &[b'n'; 512], &mut work), kept);
+    let full = Fault::Store(StoreFault::Full(1));
+    assert_eq!(rt; pair.snapshot_write(1, &[b'n'; 512], &mut work), Err(full));
     let lost = Ok(OriginWrite::Invalidated);
     assert_eq!(rt; pair.origin_write(1, &[b'n'; 512], &mut work), lost);
     assert_eq!(rt; pair.status().state, State::Invalid);
     assert_eq!(rt; pair.may_merge(), Err(Fault::Invalid));
     let mut sector = [0u8; 512];
     assert_eq!(rt; pair.snapshot_read(1, &mut sector), Err(Fault::Invalid));
+    assert_eq!(rt;
+        pair.snapshot_write(100, &sector, &mut work),
+        Err(Fault::Invalid)
+    );
     pair.origin_read(1, &mut sector)?;
     assert_eq!(rt; sector[0], b'n');
     assert_eq!(rt; pair.origin_write(2, &[b'n'; 512], &mut work), kept);
@@ -267,5 +273,53 @@ fn refusals_in_numbers(rt: HostRuntime) -> Result<(), Fail> {
     let damaged = StoreFault::Damaged { area: 1, entry: 31 };
     assert!(rt; is_numbered(Fault::Store(damaged), [13, 2, 2, 1, 31]));
     assert!(rt; is_numbered(Fault::Store(StoreFault::TooMany), [14, 2, 2, 0, 0]));
+    Ok(())
+}
+
+// A snapshot write goes to the copy of its chunk, which is made first; the origin stays, and the next write to the chunk copies nothing.
+#[test]
+fn snapshot_writes_copy_first(rt: HostRuntime) -> Result<(), Fail> {
+    let mut pair = closed(rt.alloc())?;
+    pair.make(2)?;
+    let mut work = [7u8; WORK];
+    pair.snapshot_write(7, &[b'b'; 512], &mut work)?;
+    assert!(rt; work.iter().all(|b| *b == 0));
+    pair.snapshot_write(6, &[b'a'; 512], &mut work)?;
+    assert_eq!(rt; pair.status().exceptions, 1);
+    let mut sector = [0u8; 512];
+    pair.snapshot_read(7, &mut sector)?;
+    assert_eq!(rt; sector[0], b'b');
+    pair.snapshot_read(6, &mut sector)?;
+    assert_eq!(rt; sector[511], b'a');
+    pair.origin_read(7, &mut sector)?;
+    assert_eq!(rt; sector[0], b'o');
+    Ok(())
+}
+
+// Both lengths are tested before the state, and the state before the place; a wrong length leaves the work buffer alone.
+#[test]
+fn writes_refuse_in_order(rt: HostRuntime) -> Result<(), Fail> {
+    let mut pair = closed(rt.alloc())?;
+    let mut work = [7u8; WORK];
+    let (short, sector) = ([0u8; 511], [0u8; 512]);
+    let (length, state) = (Fault::Length, Fault::State);
+    assert_eq!(rt; pair.origin_write(100, &short, &mut work), Err(length));
+    assert_eq!(rt; pair.snapshot_write(100, &short, &mut work), Err(length));
+    assert_eq!(rt;
+        pair.origin_write(100, &sector, &mut [7u8; 511]),
+        Err(length)
+    );
+    assert_eq!(rt;
+        pair.snapshot_write(100, &sector, &mut [7u8; 511]),
+        Err(length)
+    );
+    assert!(rt; work.iter().all(|b| *b == 7));
+    assert_eq!(rt; pair.origin_write(100, &sector, &mut work), Err(state));
+    assert!(rt; work.iter().all(|b| *b == 0));
+    assert_eq!(rt; pair.snapshot_write(100, &sector, &mut work), Err(state));
+    pair.make(1)?;
+    let place = Fault::Sector(100);
+    assert_eq!(rt; pair.origin_write(100, &sector, &mut work), Err(place));
+    assert_eq!(rt; pair.snapshot_write(100, &sector, &mut work), Err(place));
     Ok(())
 }

@@ -57,3 +57,12 @@ returns-clause-call g c =
     (copy_read_by d size table c.args.sector c.args.place c.sectors-n.result width _ long c.in_ok-read_sectors.ensures
     ⨾ copy_put_by d size table c.args.sector c.args.place c.sectors-n.result width c.read_sectors.new.buffer (c.read_sectors.auto.buffer ∙ long) c.in_ok-chunk_write.ensures.call
     ⨾ copy_enter_by d size table c.args.sector c.args.place c.sectors-n.result width c.sectors.ensures (count_stays c.in_ok-read_sectors.ensures) (count_stays c.in_ok-chunk_write.ensures.call) (ap (λ x. x.size) rest) (ap (λ x. listed x.table) rest) c.from.ensures c.in_ok-enter.ensures.call)
+
+pub returns-in_err-chunk_write-clause-count : goal.returns-in_err-chunk_write-clause-count
+returns-in_err-chunk_write-clause-count g c = count_stays c.in_err-chunk_write.ensures.call
+
+pub returns-in_err-enter-clause-count : goal.returns-in_err-enter-clause-count
+returns-in_err-enter-clause-count g c = count_stays c.in_err-enter.ensures.call ∙ count_stays c.in_ok-chunk_write.ensures.call
+
+pub returns-clause-count : goal.returns-clause-count
+returns-clause-count g c = count_stays c.in_ok-enter.ensures.call ∙ count_stays c.in_ok-chunk_write.ensures.call
