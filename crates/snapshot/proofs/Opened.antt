@@ -1,5 +1,5 @@
 -- The steps of making and of opening.
-use Rattle.std.proofs.Common.{◌≡◌, ℕ, eqb, length, replicate, List, [], Some, None, Option, Ok, refl, sym, ap, ◌∙◌, subst, subst₂}
+use Rattle.std.proofs.Common.{◌≡◌, ℕ, Bool, true, false, not, inl, eqb, length, replicate, List, [], Some, None, Option, Ok, refl, sym, ap, ◌∙◌, subst, subst₂}
 use Rattle.std.proofs.lemmas.Bool.{eq-eqb, cond-true}
 use Rattle.std.specs.Option.{ok_or}
 use Rattle.device.specs.Disk.{Whole, Bytes, Disk, flushes, Told, Refusal, good, refused, Called}
@@ -8,15 +8,20 @@ use Rattle.device.proofs.Steps.{Comes, same, stay, ◌⨾◌, called, ran, ends}
 use Rattle.layout.specs.Chunks.{sectors, chunk_size}
 use Rattle.layout.specs.declared.chunk.ChunkSize.{ChunkSize}
 use Rattle.layout.specs.declared.exception.Exception.{Exception}
+use Rattle.store.specs.Image.{Sizes, well_shaped}
+use Rattle.recovery.specs.Standing.{Lies}
+use Rattle.recovery.specs.Breaks.{AfterMaking}
+use Rattle.recovery.proofs.Calls.{make_leaves}
+use Rattle.recovery.proofs.Stand.{standing_lies}
 use Rattle.store.specs.Refusals.{StoreRefusal, up}
 use Rattle.store.specs.Steps.{Contents, making, opening}
 use Rattle.history.specs.Faults.{Fault, passed_up, store_up, pair_fault, flush, at_side, in_store}
-use Rattle.history.specs.Steps.{work_bytes, sizes, Memory, closed, plain, serving, Outcome, Ground, ground, guarded, after, carry, giving, open_tests, make_tests, shape, make, make_sized}
+use Rattle.history.specs.Steps.{work_bytes, sizes, Memory, closed, plain, serving, Outcome, Ground, ground, guarded, after, carry, giving, open_tests, make_tests, test, shape, make, make_sized}
 use Rattle.snapshot.specs.declared.state.Held.{Held}
 use Rattle.snapshot.specs.declared.state.Held.TheVariants.{Closed, Open, Invalid}
 use Rattle.history.specs.History.{Result, nothing, as_call, plan_of, reopen}
 use Rattle.history.proofs.Safe.{crash_safe}
-use Rattle.snapshot.specs.Pairs.{memory, wiped, Kept}
+use Rattle.snapshot.specs.Pairs.{memory, wiped, Kept, LeftOfMaking}
 use Rattle.snapshot.proofs.Begun.{barred, begun}
 use Rattle.snapshot.proofs.OnBoth.{at_cow, stored, after_ran}
 
@@ -50,6 +55,26 @@ module _ (d : Disks) (m : Memory) (c : ℕ) (size : ChunkSize) (fresh : None ≡
       last : {s : Disks} (t : Told StoreRefusal (Unit {0})) → Comes both (carry m (λ _. giving (serving size []) tt) (raised store_up t)) s (done (store_answers m size t)) s
       last (good x) = stay
       last (refused f) = stay
+
+-- WHAT A POWER CUT LEAVES OF A MAKING
+
+-- of a device that it did not reach
+pub left_alone : (c : ℕ) (z : Sizes) (d : Disk) → LeftOfMaking c z d d
+left_alone c z d size after is cut = inl cut.one_of
+
+fitting : (b : Bool) (f : Fault) → None ≡ test (not b) f → b ≡ true
+fitting true f h = refl
+fitting false f h = cc
+
+some_is : {A : Type 0} {x y : A} → Some x ≡ Some y → x ≡ y
+some_is h = cc
+
+-- of one that it did
+pub left_of_making : (d : Disks) (c : ℕ) (size : ChunkSize) {t : Told StoreRefusal (Unit {0})} {e : Disk} → chunk_size c ≡ Some size → None ≡ shape (ground d) (sectors size) → Runs one (lifted up (making (sectors size))) d.cow t e → LeftOfMaking c (ground d).size d.cow e
+left_of_making d c size {t} {e} chose fits r other after is cut =
+    let z = sizes d in
+    let well = fitting (well_shaped z (sectors size)) (pair_fault 9) fits in
+    subst (λ x. AfterMaking Lies z x d.cow after) (some_is (sym chose ∙ is)) (make_leaves standing_lies z size d.cow e after t well r cut)
 
 -- the size of chunks that was chosen
 pub chosen : {A F : Type 0} {x : A} (o : Option A) (f : F) → Ok x ≡ ok_or o f → o ≡ Some x

@@ -1,12 +1,15 @@
 -- What a pair means.
 use Rattle.std.specs.Prelude.{◌≡◌, ℕ, cond, length, replicate, ◌==◌, List, Some, None, Ok, Err, Option, Result}
-use Rattle.device.specs.Disk.{Bytes, Disk}
+use Rattle.device.specs.Disk.{Bytes, Disk, Cut}
 use Rattle.device.specs.Plans.{Disks, pair}
 use Rattle.layout.specs.declared.chunk.ChunkSize.{ChunkSize}
 use Rattle.layout.specs.Chunks.{chunk_size}
 use Rattle.layout.specs.declared.exception.Exception.{Exception}
 use Rattle.exceptions.specs.Listed.{listed}
+use Rattle.store.specs.Image.{Sizes}
 use Rattle.recovery.specs.Readings.{image}
+use Rattle.recovery.specs.Standing.{Lies}
+use Rattle.recovery.specs.Breaks.{AfterMaking}
 use Rattle.history.specs.Faults.{Fault}
 use Rattle.history.specs.Steps.{work_bytes, Memory, closed, serving, invalid, plain, Ground, ground}
 use Rattle.history.specs.History.{Situation}
@@ -55,3 +58,8 @@ wiped bytes = cond (length bytes == work_bytes) (replicate work_bytes 0) bytes
 abbrev pub Kept : ℕ → Disks → Situation → Type 0
 Kept c before start =
     (size : ChunkSize) × (chunk_size c ≡ Some size) × Protected (made size start.disks) start × ((s : ℕ) → image start.disks.origin s ≡ image before.origin s)
+
+-- making with chunks of c sectors, wherever it broke off: what a power cut leaves of the COW device is what it held before, or no store,
+-- or an empty list
+abbrev pub LeftOfMaking : ℕ → Sizes → Disk → Disk → Type 0
+LeftOfMaking c z before used = (size : ChunkSize) (after : Disk) → chunk_size c ≡ Some size → Cut used after → AfterMaking Lies z size before after

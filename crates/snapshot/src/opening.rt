@@ -5,7 +5,7 @@ ghost use Rattle.layout.specs.Chunks.{sectors};
 ghost use Rattle.history.specs.Steps.{make_tests, shape, make};
 ghost use Rattle.history.specs.History.{Happens, replied, reopen, nothing};
 ghost use Rattle.snapshot.specs.Answers.{answered};
-ghost use Rattle.snapshot.specs.Pairs.{disks, remembered, seen, situation, tested, wiped, Kept};
+ghost use Rattle.snapshot.specs.Pairs.{disks, remembered, seen, situation, tested, wiped, Kept, LeftOfMaking};
 
 use crate::fault::Fault;
 use crate::pair::Pair;
@@ -43,6 +43,7 @@ impl<O: Device, C: Device> Pair<O, C> {
     pub fn make(&mut self, c: u32) -> Result<(), Fault>
         ensures call { Runs both (make (seen O.disk C.disk self.old) (remembered self.old) c) (disks O.disk C.disk self.old) (record { answer = answered result; memory = remembered self.new }) (disks O.disk C.disk self.new) }
         ensures promise { IfOk result (λ _. Kept c (disks O.disk C.disk self.old) (situation O.disk C.disk self.new)) }
+        ensures cut { LeftOfMaking c (seen O.disk C.disk self.old).size (C.disk self.old.store.cow) (C.disk self.new.store.cow) }
     {
         self.test_closed()?;
         let size = ChunkSize::try_from(c)?;

@@ -4,7 +4,7 @@ use Rattle.exceptions.specs.Listed.{listed}
 use Rattle.history.specs.Steps.{serving}
 use Rattle.snapshot.specs.Pairs.{disks, memory, remembered, seen}
 use Rattle.snapshot.proofs.Begun.{origin_passed, store_passed}
-use Rattle.snapshot.proofs.Opened.{closes, unflushed, made_both, chosen, ending_as, kept}
+use Rattle.snapshot.proofs.Opened.{closes, unflushed, made_both, chosen, left_of_making, ending_as, kept}
 use Rattle.snapshot.proofs.pair.Pair.make.Goals as goal
 
 pub returns-in_err-flush-clause-call : goal.returns-in_err-flush-clause-call
@@ -38,3 +38,13 @@ returns-clause-promise g c =
     kept c.args.c (disks o w self) (disks o w after) (remembered self) _ (g.met.O.Device.whole self.origin) (g.met.C.Device.whole self.store.cow)
     (ap (λ h. memory h self.store.size (listed self.store.table)) (closes (seen o w self) self.held self.store.size (listed self.store.table) c.in_ok-test_closed.ensures))
     (returns-clause-call g c)
+
+pub returns-in_err-make-clause-cut : goal.returns-in_err-make-clause-cut
+returns-in_err-make-clause-cut g c =
+    let d = disks g.O.Device.disk g.C.Device.disk c.args.self.now in
+    left_of_making d c.args.c c.in_ok-size.size (chosen _ _ c.in_ok-size.ensures) c.in_ok-test_shape.ensures c.in_err-make.ensures.call
+
+pub returns-clause-cut : goal.returns-clause-cut
+returns-clause-cut g c =
+    let d = disks g.O.Device.disk g.C.Device.disk c.args.self.now in
+    left_of_making d c.args.c c.in_ok-size.size (chosen _ _ c.in_ok-size.ensures) c.in_ok-test_shape.ensures c.in_ok-make.ensures.call
