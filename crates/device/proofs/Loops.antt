@@ -23,7 +23,7 @@ use Rattle.device.specs.Plans.{Plan, Steps, done, call, onward, Filled, zeroing,
 
 -- A GOOD READ OR WRITE NAMES A SECTOR ON THE DEVICE
 
-here : (len s : ℕ) (d : Disk) (w : Way) (o : Op) {a : Bytes} → good a ≡ told_by (at_sector len s d w) o d → s < d.count
+pub here : (len s : ℕ) (d : Disk) (w : Way) (o : Op) {a : Bytes} → good a ≡ told_by (at_sector len s d w) o d → s < d.count
 here len s d w o {a} is = go (eqb len 512) (ltb s d.count) refl is
   where
     go : (x y : Bool) → ltb s d.count ≡ y → good a ≡ told_by (cond x (cond y w (refuses 2 s)) (refuses 1 0)) o d → s < d.count

@@ -1,15 +1,16 @@
 -- The store's steps name sectors of its device.
-use Rattle.std.proofs.Common.{◌≡◌, ℕ, ◌+◌, ◌*◌, ◌/◌, ◌%◌, ◌<◌, ◌≤◌, Bool, true, false, List, length, replicate, Some, refl, mul-le-mul_right, mod-lt, mul_assoc, mul_comm, le-div_iff_mul-le, mul-one, mul-add, arith}
+use Rattle.std.proofs.Common.{◌≡◌, ℕ, ◌+◌, ◌*◌, ◌/◌, ◌%◌, ◌<◌, ◌≤◌, Bool, true, false, not, ◌&&◌, ltb, List, length, replicate, Some, None, Option, sym, refl, ap, ◌∙◌, ⊎_elim, mul-le-mul_right, mod-lt, mul_assoc, mul_comm, le-div_iff_mul-le, mul-one, mul-add, arith}
 use native.Mathlib.Nat.{div-add-mod}
+use Rattle.std.proofs.lemmas.Bool.{cases_Bool, and_parts, not-false, not-true, ltb-true, cond-false}
 use Rattle.device.specs.Disk.{Bytes, writes, flushes}
 use Rattle.device.specs.Plans.{then, Steps, zeroing}
 use Rattle.layout.specs.declared.chunk.ChunkSize.{ChunkSize}
 use Rattle.layout.specs.declared.chunk.ChunkSize.TheVariants.{One, Two, Four, Eight, Sixteen}
 use Rattle.layout.specs.declared.exception.Exception.{Exception}
-use Rattle.layout.specs.Chunks.{sectors, per_area, area_start, area_place}
+use Rattle.layout.specs.Chunks.{sectors, per_area, area_chunk, area_start, area_place}
 use Rattle.layout.specs.Entries.{pic}
 use Rattle.layout.specs.Headers.{header}
-use Rattle.exceptions.specs.Table.{entries_at_most, fills_area, room}
+use Rattle.exceptions.specs.Table.{entries_at_most, fills_area, next_place, has_room, room}
 use Rattle.store.specs.Image.{Sizes}
 use Rattle.store.specs.Steps.{finished, writing, flushing, storing, making, preparing, entering, spoiling}
 use Rattle.recovery.specs.Standing.{Listed}
@@ -53,6 +54,17 @@ making_fair n size room =
 
 pub spoiling_fair : (n : ℕ) (size : ChunkSize) → 0 < n → Fair n (spoiling (sectors size))
 spoiling_fair n size some = writing_fair n 0 (header false (sectors size)) (flushing finished) (header_long false size) some (flushing_fair n finished tt)
+
+-- where there is room, at any limit, an exception that fills its area has the next area on the device
+pub room_area : (limit c chunks : ℕ) (es : List Exception) (p : ℕ) → room limit c chunks es ≡ Some p → fills_area c (length es) ≡ true → area_chunk c (length es / per_area c + 1) < chunks
+room_area limit c chunks es p is fills =
+    ⊎_elim
+    (λ has.
+    let rest = (and_parts (ltb (next_place c es) chunks) _ has).1 in
+    let area = (and_parts (not (fills_area c (length es) && not (ltb (area_chunk c (length es / per_area c + 1)) chunks))) _ rest).0 in
+    ltb-true _ _ (not-false _ (sym (ap (λ b. b && not (ltb (area_chunk c (length es / per_area c + 1)) chunks)) fills) ∙ not-true _ area)))
+    (λ none. absurd (let z : ◌≡◌ {A = Option ℕ} None (Some p) = sym (cond-false (has_room limit c chunks (length es) (next_place c es)) _ _ none) ∙ is in let o : ◌≡◌ {A = ℕ} 0 1 = cc in omega arith))
+    (cases_Bool (has_room limit c chunks (length es) (next_place c es)))
 
 -- a chunk that is on a device, sector by sector
 pub chunk_on : (size : ChunkSize) (n k : ℕ) → k < n / sectors size → k * sectors size + sectors size ≤ n

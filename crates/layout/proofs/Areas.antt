@@ -56,7 +56,7 @@ item_is part n k e turn =
     (within, omega (arith, ap (λ (p : ℕ × Exception). p.0) both), ap (λ (p : ℕ × Exception). p.1) both)
 
 -- the next part, right after what is there
-put_next : (xs zs ys : List ℕ) (a k : ℕ) → length xs ≡ a → put_mid a k (xs ++ zs) ys ≡ xs ++ (ys ++ drop k zs)
+pub put_next : (xs zs ys : List ℕ) (a k : ℕ) → length xs ≡ a → put_mid a k (xs ++ zs) ys ≡ xs ++ (ys ++ drop k zs)
 put_next xs zs ys a k h = ap₂ (λ l r. l ++ (ys ++ drop k r)) (take_at xs zs a h) (drop_at xs zs a h)
 
 drop_zeros : (n m k : ℕ) → m - n ≡ k → drop n (replicate {A = ℕ} m 0) ≡ replicate k 0

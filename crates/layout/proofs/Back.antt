@@ -13,7 +13,7 @@ use Rattle.layout.specs.declared.chunk.ChunkSize.TheVariants.{One, Two, Four, Ei
 use Rattle.layout.specs.Headers.{HeaderBack}
 use Rattle.layout.proofs.Made.{length_entries, length_entries-take}
 
-value_le : (w n : ℕ) → n < 256 ^ w → value (le w n) ≡ n
+pub value_le : (w n : ℕ) → n < 256 ^ w → value (le w n) ≡ n
 value_le zero n h = omega arith
 value_le (suc w) n h = let less : n / 256 < 256 ^ w = div_below n 256 (256 ^ w) (omega arith) (rw pow-suc at h) in let back = value_le w (n / 256) less in omega arith
 
@@ -33,7 +33,7 @@ part_at xs ys at k n h =
 front_at : (xs ys : List ℕ) (at n : ℕ) → length xs ≡ at → between at (at + n) (xs ++ ys) ≡ take n ys
 front_at xs ys at n h = let size : at + n - at ≡ n = omega arith in ap₂ (λ m l. take m l) size (drop_at xs ys at h)
 
-entry_here : (xs zs : List ℕ) (e : Exception) (at : ℕ) → length xs ≡ at → Fits e → entry_from (xs ++ (entry e ++ zs)) at ≡ e
+pub entry_here : (xs zs : List ℕ) (e : Exception) (at : ℕ) → length xs ≡ at → Fits e → entry_from (xs ++ (entry e ++ zs)) at ≡ e
 entry_here xs zs e at h fit =
     let old : value (between at (at + 8) (xs ++ (entry e ++ zs))) ≡ e.old = ap value (front_at xs (entry e ++ zs) at 8 h) ∙ value_le 8 e.old fit.old in
     let new : value (between (at + 8) (at + 8 + 8) (xs ++ (entry e ++ zs))) ≡ e.new = ap value (part_at xs (entry e ++ zs) at 8 8 h) ∙ value_le 8 e.new fit.new in

@@ -34,9 +34,12 @@ fn print_runs(rt: &HostRuntime, exceptions: &[Exception]) -> io::Result<()> {
     Ok(())
 }
 
-// How many bytes differ.
+// How many bytes differ. A fold, since `filter` and `count` would take the bytes one at a time; no count can wrap.
 fn count_changed(before: &[u8], after: &[u8]) -> usize {
-    before.iter().zip(after).filter(|(a, b)| a != b).count()
+    before
+        .iter()
+        .zip(after)
+        .fold(0, |n: usize, (a, b)| n.wrapping_add(usize::from(a != b)))
 }
 
 // Opens a store, prints what opening finds or why it refuses, and gives back the bytes that it leaves.

@@ -90,7 +90,7 @@ module _ (A : ℕ → Bytes → Type 0) where
 -- WHERE THEY ARE GOOD
 
 -- no answer is good and refused
-never_good : {F X Y : Type 0} {x : X} {f : F} → ◌≡◌ {A = Told F X} (good x) (refused f) → Y
+pub never_good : {F X Y : Type 0} {x : X} {f : F} → ◌≡◌ {A = Told F X} (good x) (refused f) → Y
 never_good h = cc
 
 -- a test was passed

@@ -38,7 +38,7 @@ pub written_good : {X : Type 0} {s : ℕ} {bytes : Bytes} {p : Plan (Unit {0}) (
 written_good {s = s} {bytes = bytes} r = called_good (writes s bytes) r
 
 -- zeros over a range: below it nothing changes, and in it zeros are read
-zeros_below : (n s : ℕ) {d e : Disk} → Runs one (zeroing s n) d (good tt) e → (t : ℕ) → t < s → image e t ≡ image d t
+pub zeros_below : (n s : ℕ) {d e : Disk} → Runs one (zeroing s n) d (good tt) e → (t : ℕ) → t < s → image e t ≡ image d t
 zeros_below zero s r t h = ap (λ y. image y t) (run_over r).1
 zeros_below (suc n) s {d} r t h = let w = written_good r in zeros_below n (s + 1) w.1 t (omega arith) ∙ put_elsewhere d s (replicate 512 0) w.0 t (omega arith)
 
